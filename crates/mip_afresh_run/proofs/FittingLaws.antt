@@ -107,16 +107,15 @@ module _ (c : Content) (lawful : IsLawful c) (few : AreFew c.declarations) (shor
     fits : (event : Event) → IsEvent (is_numbered c.version) ds before event → misfit ds (waited before) (carried before) event ≡ None
     fits event is = timely ds (length before) (waited before) (carried before) event is.fits
 
-    within : (now : ℕ) (event : Event) → now + wait_of event < 2 ^ 62 → IsEvent (is_numbered c.version) ds before event → IsWithin now event
+    within : (event : Event) → IsEvent (is_numbered c.version) ds before event → IsWithin event
     unfolding misfit
-    within now (Wait ms) soon is = soon
-    within now (Payload node to proto payload) soon is = (is.within.1, data_fits proto (passed (is_reserved proto) reasons.Number None (fits _ is)).0, is.within.2)
-    within now (Inject o link packet) soon is = packet_fits packet (fits _ is)
-    within now (Bind o link ends sequence lifetime kh kc number) soon is = (is.within.4, omega (arith, is.within.6, few_numbers (is_numbered c.version)))
-    within now (Squat o address) soon is = outsider_fits o is.within.0
-    within now (Yield o address) soon is = outsider_fits o is.within.0
-    within now (Refresh node home) soon is = is.within.1
-    within now _ soon is = tt
+    within (Payload node to proto payload) is = (is.within.1, data_fits proto (passed (is_reserved proto) reasons.Number None (fits _ is)).0, is.within.2)
+    within (Inject o link packet) is = packet_fits packet (fits _ is)
+    within (Bind o link ends sequence lifetime kh kc number) is = (is.within.4, omega (arith, is.within.6, few_numbers (is_numbered c.version)))
+    within (Squat o address) is = outsider_fits o is.within.0
+    within (Yield o address) is = outsider_fits o is.within.0
+    within (Refresh node home) is = is.within.1
+    within _ is = tt
 
   pub fit : (i : ℕ) (event : Event) → slice_get c.events i ≡ Some event → IsFit (behind c i) event
   fit i event there =
@@ -125,5 +124,5 @@ module _ (c : Content) (lawful : IsLawful c) (few : AreFew c.declarations) (shor
       record {
         reached = record { events = take i c.events; is = refl };
         early = omega arith;
-        within = within (take i c.events) (now_in (setup_of c) (behind c i).run) event (omega arith) is;
+        within = within (take i c.events) event is;
       }

@@ -1,5 +1,5 @@
+mod HostLaws
 mod SettingLaws
 mod ForgingLaws
-mod PlainLaws
 mod FittingLaws
 pub mod RunLaws

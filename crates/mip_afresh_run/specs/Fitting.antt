@@ -1,9 +1,9 @@
 -- What an event needs to happen in a run. Each event of a schedule has it behind those before it.
-use Rattle.std.specs.Prelude.{ℕ, ◌+◌, ◌<◌, ◌≤◌, ◌^◌, length, IsTrue, IsFalse, ⊤}
+use Rattle.std.specs.Prelude.{◌<◌, ◌≤◌, ◌^◌, length, IsTrue, IsFalse, ⊤}
 use Rattle.mip_words.specs.Addresses.{is_routable}
 use Rattle.mip_ipv6.specs.Packet.{names_no_body}
 use Rattle.mip_schedule.specs.declared.event.Event.{Event}
-use Rattle.mip_schedule.specs.declared.event.Event.TheVariants.{Wait, Payload, Inject, Bind, Squat, Yield, Refresh}
+use Rattle.mip_schedule.specs.declared.event.Event.TheVariants.{Payload, Inject, Bind, Squat, Yield, Refresh}
 use Rattle.mip_history.specs.Knowing.{now_in}
 use Rattle.mip_afresh.specs.Tellings.{TellingSeen}
 use Rattle.mip_afresh_nodes.specs.Reached.{IsReached}
@@ -13,19 +13,18 @@ abbrev pub CanForge : Event → Type 0
 CanForge (Bind outsider link ends sequence lifetime home_test careof_test number) = IsTrue (is_routable ends.home.0) × (number < 8)
 CanForge _ = ⊤
 
--- at this moment an event stays within its bounds: a wait ends below 2 ^ 62; data is of a protocol that names a body, has 512
--- bytes at most and goes to a routable address; an injected packet has its fixed header
-abbrev pub IsWithin : ℕ → Event → Type 0
-IsWithin now (Wait ms) = now + ms < 2 ^ 62
-IsWithin now (Payload node to proto payload) = IsTrue (is_routable to.0) × IsFalse (names_no_body proto) × (length payload ≤ 512)
-IsWithin now (Inject outsider link packet) = 40 ≤ length packet
-IsWithin now (Squat outsider address) = outsider < 8
-IsWithin now (Yield outsider address) = outsider < 8
-IsWithin now (Refresh node home) = IsTrue (is_routable home.0)
-IsWithin now event = CanForge event
+-- an event stays within its bounds: data is of a protocol that names a body, has 512 bytes at most and goes to a routable address;
+-- an injected packet has its fixed header
+abbrev pub IsWithin : Event → Type 0
+IsWithin (Payload node to proto payload) = IsTrue (is_routable to.0) × IsFalse (names_no_body proto) × (length payload ≤ 512)
+IsWithin (Inject outsider link packet) = 40 ≤ length packet
+IsWithin (Squat outsider address) = outsider < 8
+IsWithin (Yield outsider address) = outsider < 8
+IsWithin (Refresh node home) = IsTrue (is_routable home.0)
+IsWithin event = CanForge event
 
 -- an event may happen in a run that events lead to, at a moment below 2 ^ 62
 pub record IsFit (t : TellingSeen) (event : Event) : Type 0 where
   pub reached : IsReached t.setup t.run
   pub early : now_in t.setup t.run < 2 ^ 62
-  pub within : IsWithin (now_in t.setup t.run) event
+  pub within : IsWithin event

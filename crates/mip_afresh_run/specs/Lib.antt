@@ -1,5 +1,4 @@
-pub mod Plain
-pub mod Correspondents
+pub mod Hosts
 pub mod Forged
 pub mod Fitting
 pub mod Runs

@@ -12,7 +12,9 @@ ghost use Rattle.mip_afresh_run.specs.Forged.{forged};
 
 use crate::forging::forged;
 use mip_afresh::Telling;
-use mip_afresh_nodes::{carry, deliver, refresh, send, show};
+use mip_afresh_nodes::{
+    advertise, ask, carry, deliver, move_to, plan, refresh, restart, send, show, wait,
+};
 use mip_entries::Entry;
 use mip_schedule::Event;
 use mip_settled::settled;
@@ -44,16 +46,15 @@ fn settle(telling: &mut Telling, a: NodeId, b: NodeId) -> Result<(), Memory>
     telling.note(Entry::Settled { a, b, yes })
 }
 
-/// An event happens that is fit. No node moves, advertises, plans or asks for prefixes, since each is a correspondent.
+/// An event happens that is fit.
 pub(crate) fn happen(alloc: Global, telling: &mut Telling, event: &Event) -> Result<(), Memory>
     requires { IsFit telling.old event.now }
     ensures { OnOk result (telling.new ≡ with_run (happens telling.old.setup telling.old.run event.now) telling.old) }
 {
-    telling.plain();
     match event {
-        Event::Wait { ms } => telling.wait(u64::from(*ms)),
-        Event::Move { .. } | Event::Plan { .. } | Event::Ask { .. } => telling.idle(),
-        Event::Advertise { .. } => Ok(()),
+        Event::Wait { ms } => wait(alloc, telling, *ms),
+        Event::Move { node, link } => move_to(alloc, telling, *node, *link),
+        Event::Advertise { link } => advertise(alloc, telling, *link),
         Event::Payload {
             node,
             to,
@@ -76,8 +77,14 @@ pub(crate) fn happen(alloc: Global, telling: &mut Telling, event: &Event) -> Res
         Event::Repeat { number } => deliver(alloc, telling, u64::from(*number), true),
         Event::Lose { number } => telling.lose(u64::from(*number)),
         Event::Carry { count } => carry(alloc, telling, *count),
-        Event::Restart { node } => telling.restart(*node),
+        Event::Restart { node } => restart(alloc, telling, *node),
         Event::Refresh { node, home } => refresh(alloc, telling, *node, home.get()),
+        Event::Plan {
+            node,
+            valid,
+            preferred,
+        } => plan(alloc, telling, *node, *valid, *preferred),
+        Event::Ask { node } => ask(alloc, telling, *node),
         Event::Show { node } => show(alloc, telling, *node),
         Event::Settle { a, b } => settle(telling, *a, *b),
     }

@@ -1,4 +1,5 @@
-//! The run of a schedule of correspondents and outsiders, computed afresh: each event happens over what the entries so far tell.
+//! The run of a schedule, computed afresh: each event happens over what the entries so far tell, and over what home agents and mobiles
+//! keep.
 #![tactic(auto)]
 
 mod asking;
@@ -6,10 +7,9 @@ mod binding;
 mod fitting;
 mod forging;
 mod happening;
-mod plain;
+mod hosts;
 mod run;
 mod setting;
 mod told;
 
-pub use plain::is_plain;
 pub use run::Run;

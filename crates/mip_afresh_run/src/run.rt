@@ -1,6 +1,5 @@
-ghost use Rattle.std.specs.Prelude.{◌≡◌, ◌+◌, true, false, if◌then◌else◌, length, IfOk, OnOk};
+ghost use Rattle.std.specs.Prelude.{◌≡◌, ◌+◌, false, if◌then◌else◌, length, IfOk, OnOk};
 ghost use Rattle.mip_schedule.specs.Schedules.{content};
-ghost use Rattle.mip_afresh_run.specs.Plain.{is_plain};
 ghost use Rattle.mip_afresh_run.specs.Runs.{IsRunOf};
 
 use crate::fitting::fits;
@@ -13,7 +12,7 @@ use mip_words::Memory;
 use std::alloc::Global;
 use std::marker::Model;
 
-/// The run of a schedule of correspondents and outsiders, computed afresh event by event.
+/// The run of a schedule, computed afresh event by event.
 ///
 /// After `Err(Memory)` no clause says what has happened.
 #[derive(Drop)]
@@ -33,7 +32,6 @@ impl Model for Run {
 impl Run {
     /// The run of a schedule before its first event.
     pub fn open(alloc: Global, schedule: &Schedule) -> Result<Run, Memory>
-        requires { is_plain schedule.now.declarations ≡ true }
         ensures stands { IfOk result (λ r. IsRunOf r (content schedule.now)) }
         ensures first { IfOk result (λ r. r.next ≡ 0) }
     {

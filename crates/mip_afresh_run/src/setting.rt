@@ -1,13 +1,12 @@
-//! What a plain schedule declares, as its run needs it.
+//! What a schedule declares, as its run needs it.
 
-ghost use Rattle.std.specs.Prelude.{◌≡◌, ◌≤◌, ◌∷◌, ◌++◌, [], true, length, map, IfOk, OnOk};
+ghost use Rattle.std.specs.Prelude.{◌≡◌, ◌≤◌, ◌∷◌, ◌++◌, [], length, map, IfOk, OnOk};
 ghost use Rattle.mip_symbols.specs.Places.{AreFew};
 ghost use Rattle.mip_schedule.specs.Schedules.{content};
 ghost use Rattle.mip_history.specs.Setup.{links_in, outsiders_in, setup_of};
-ghost use Rattle.mip_afresh_run.specs.Plain.{is_plain};
-ghost use Rattle.mip_afresh_run.specs.Correspondents.{correspondents_in};
 
-use mip_afresh::{Host, Setting};
+use crate::hosts::hosts_in;
+use mip_afresh::Setting;
 use mip_schedule::{Declaration, Schedule, few, numbers_of};
 use mip_symbols::{Sort, count};
 use mip_words::{Memory, Prefix};
@@ -36,32 +35,6 @@ fn links_in(alloc: Global, ds: &[Declaration]) -> Result<Vec<Prefix>, Memory>
     Ok(links)
 }
 
-/// One node more, where the declaration is of a correspondent.
-fn add_host(hosts: &mut Vec<Host>, d: &Declaration) -> Result<(), Memory>
-    ensures { OnOk result (hosts.new.items ≡ hosts.old.items ++ correspondents_in (d.now ∷ [])) }
-{
-    match d {
-        Declaration::Correspondent { address, room, .. } => hosts.push(Host {
-            address: *address,
-            room: *room,
-        })?,
-        _ => (),
-    }
-    Ok(())
-}
-
-/// The correspondents, in order of declaration.
-#[tactic(auto, using(crate::proofs::SettingLaws::correspondents_more))]
-fn hosts_in(alloc: Global, ds: &[Declaration]) -> Result<Vec<Host>, Memory>
-    ensures { IfOk result (λ v. v.items ≡ correspondents_in ds.now) }
-{
-    let mut hosts = Vec::new(alloc);
-    for d in ds {
-        add_host(&mut hosts, d)?;
-    }
-    Ok(hosts)
-}
-
 /// How many outsiders there are.
 #[tactic(auto, using(crate::proofs::SettingLaws::outsiders_counted))]
 fn outsiders_in(ds: &[Declaration]) -> u8
@@ -71,9 +44,8 @@ fn outsiders_in(ds: &[Declaration]) -> u8
     count(ds, Sort::Outsider) as u8
 }
 
-/// What a plain schedule declares: at most 32 links and 32 nodes.
+/// What a schedule declares: at most 32 links and 32 nodes.
 pub(crate) fn setting_of(alloc: Global, schedule: &Schedule) -> Result<Setting, Memory>
-    requires { is_plain schedule.now.declarations ≡ true }
     ensures is { IfOk result (λ s. s ≡ setup_of (content schedule.now)) }
     ensures links { IfOk result (λ s. length s.links ≤ 32) }
     ensures hosts { IfOk result (λ s. length s.hosts ≤ 32) }

@@ -1,22 +1,19 @@
 //! Audits of a history.
 
-ghost use Rattle.std.specs.Prelude.{◌≡◌, true, IfOk};
+ghost use Rattle.std.specs.Prelude.{◌≡◌, IfOk};
 ghost use Rattle.mip_schedule.specs.Schedules.{content};
 ghost use Rattle.mip_history.specs.Permitted.{permitted};
 ghost use Rattle.mip_audit.specs.Places.{JudgesHistory};
-ghost use Rattle.mip_afresh_run.specs.Plain.{is_plain};
 
-use mip_afresh_run::{Run, is_plain};
+use mip_afresh_run::Run;
 use mip_audit::{HistoryFault, judge_history};
 use mip_entries::History;
-use mip_replay::replay;
 use mip_schedule::Schedule;
 use mip_words::Memory;
 use std::alloc::Global;
 
 /// The run of a whole schedule, computed afresh.
 fn run_afresh(alloc: Global, schedule: &Schedule) -> Result<Run, Memory>
-    requires { is_plain schedule.now.declarations ≡ true }
     ensures { IfOk result (λ run. run.telling.run.past ≡ permitted (content schedule.now)) }
 {
     let mut run = Run::open(alloc, schedule)?;
@@ -25,16 +22,10 @@ fn run_afresh(alloc: Global, schedule: &Schedule) -> Result<Run, Memory>
 }
 
 /// Whether a history is the permitted one of a schedule, or else the first place at which they differ: the length of the shorter one
-/// where that is a front of the other. The permitted one is computed afresh where each node is a correspondent, and replayed
-/// elsewhere.
+/// where that is a front of the other. The permitted one is computed afresh.
 pub fn audit(alloc: Global, schedule: &Schedule, history: &History) -> Result<(), HistoryFault>
     ensures { JudgesHistory result history.now (permitted (content schedule.now)) }
 {
-    if is_plain(schedule.declarations.as_slice()) {
-        let run = run_afresh(alloc, schedule)?;
-        judge_history(alloc, history.as_slice(), run.history().as_slice())
-    } else {
-        let permitted = replay(alloc, schedule)?;
-        judge_history(alloc, history.as_slice(), permitted.as_slice())
-    }
+    let run = run_afresh(alloc, schedule)?;
+    judge_history(alloc, history.as_slice(), run.history().as_slice())
 }

@@ -1,7 +1,7 @@
-use Rattle.std.proofs.Common.{◌≡◌, sym, ◌∙◌}
+use Rattle.std.proofs.Common.{◌≡◌, ◌∙◌}
 use Rattle.mip_schedule.specs.Schedules.{content}
 use Rattle.std.specs.Prelude.{if◌then◌else◌}
-use Rattle.std.proofs.Common.{ℕ, ◌+◌, Bool, ap}
+use Rattle.std.proofs.Common.{◌+◌, Bool, ap}
 use Rattle.mip_afresh_run.proofs.RunLaws.{told_whole}
 use Rattle.mip_audit_by_run.proofs.histories.run_afresh.Goals as goal
 

@@ -3,7 +3,7 @@ use Rattle.std.specs.Prelude.{Some}
 use Rattle.mip_schedule.specs.Schedules.{content}
 use Rattle.mip_afresh_run.specs.Runs.{IsRunOf}
 use Rattle.mip_audit.proofs.Pieces.{IsCompared}
-use Rattle.mip_audit_by_run.proofs.afresh.audit_afresh.Given as goal
+use Rattle.mip_audit_by_run.proofs.traces.audit_trace.Given as goal
 
 abbrev pub invariant-loop-run : goal.invariant-loop-run
 invariant-loop-run l = record {

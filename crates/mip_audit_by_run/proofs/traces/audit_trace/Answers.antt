@@ -7,8 +7,8 @@ use Rattle.mip_history.specs.Permitted.{permitted}
 use Rattle.mip_afresh_run.proofs.RunLaws.{told_front, told_whole}
 use Rattle.mip_audit.proofs.Pieces.{none_compared, piece_compared, piece_judged, end_compared}
 use Rattle.mip_audit_by_run.proofs.Steps.{items, step_items}
-use Rattle.mip_audit_by_run.proofs.afresh.audit_afresh.Goals as goal
-use Rattle.mip_audit_by_run.proofs.afresh.audit_afresh.Goals.{After-history-in-loop-run}
+use Rattle.mip_audit_by_run.proofs.traces.audit_trace.Goals as goal
+use Rattle.mip_audit_by_run.proofs.traces.audit_trace.Goals.{After-history-in-loop-run}
 
 -- what a step more has told
 more : (c : After-history-in-loop-run) → (c.loop-run.met ≤ length c.history-in-loop-run.result.now)
