@@ -137,13 +137,15 @@ module _ (s : Setup) (base : Run) where
           subst (IsTaken (seen roles) (seen (slice_set roles n Plain)) n) (sym (some_there roles n Plain is))
           (both _ _ _ _ (set_plain agent_past roles n (Some Plain) is refl refl) (set_plain mobile_past roles n (Some Plain) is refl refl))
       by (Some (Agent a)) is of =
-          subst (IsTaken (seen roles) (seen (slice_set roles n Plain)) n) (sym (some_there roles n (Agent a) is))
-          (record { is = of; inside = inside_of agent_past roles n (Agent a) Plain is },
-           both _ _ _ _ (sym (restored agent_past roles n (Agent a) Plain is)) (sym (set_plain mobile_past roles n (Some (Agent a)) is refl refl)))
+          subst (IsTaken (seen roles) (seen (slice_set roles n Plain)) n) (sym (some_there roles n (Agent a) is)) (
+            record { is = of; inside = inside_of agent_past roles n (Agent a) Plain is },
+            both _ _ _ _ (sym (restored agent_past roles n (Agent a) Plain is)) (sym (set_plain mobile_past roles n (Some (Agent a)) is refl refl)),
+          )
       by (Some (Mobile m)) is of =
-          subst (IsTaken (seen roles) (seen (slice_set roles n Plain)) n) (sym (some_there roles n (Mobile m) is))
-          (record { is = of; inside = inside_of mobile_past roles n (Mobile m) Plain is },
-           both _ _ _ _ (sym (set_plain agent_past roles n (Some (Mobile m)) is refl refl)) (sym (restored mobile_past roles n (Mobile m) Plain is)))
+          subst (IsTaken (seen roles) (seen (slice_set roles n Plain)) n) (sym (some_there roles n (Mobile m) is)) (
+            record { is = of; inside = inside_of mobile_past roles n (Mobile m) Plain is },
+            both _ _ _ _ (sym (set_plain agent_past roles n (Some (Mobile m)) is refl refl)) (sym (restored mobile_past roles n (Mobile m) Plain is)),
+          )
 
   -- an agent that is put back has its past in the run, and so has a mobile
   pub put_agent_back : (roles : List Role) (n : ℕ) (a : AgentSeen) → AreOf s roles → IsAgent s n a → seen (slice_set roles n (Agent a)) ≡ with_run (with_agent_past n a.past (let t = seen roles in t.run)) (seen roles)

@@ -83,7 +83,13 @@ fn claimed(links: &[Prefix], who: u8, address: Address) -> Entry
 }
 
 /// The claims of a node, behind those of the nodes before it.
-fn claim_of(past: &mut Past, links: &[Prefix], before: &[Host], who: u8, host: &Host) -> Result<(), Memory>
+fn claim_of(
+    past: &mut Past,
+    links: &[Prefix],
+    before: &[Host],
+    who: u8,
+    host: &Host,
+) -> Result<(), Memory>
     requires links { length links.now ≤ 32 }
     requires place { who ≡ length before.now }
     ensures { OnOk result (past.new ≡ past.old ++ claims_of (map (λ p. p.0) links.now) (map host_seen before.now) (host_seen host.now)) }

@@ -9,3 +9,7 @@ use Rattle.mip_afresh_mobile.specs.Pasts.{with_called}
 pub numbers-kept : (m : NodeSeen) (calls : List Called) → (fold with_called m calls).numbers ≡ m.numbers
 numbers-kept m [] = refl
 numbers-kept m (call ∷ calls) = numbers-kept (with_called m call) calls
+
+pub home-kept : (m : NodeSeen) (calls : List Called) → (fold with_called m calls).home ≡ m.home
+home-kept m [] = refl
+home-kept m (call ∷ calls) = home-kept (with_called m call) calls

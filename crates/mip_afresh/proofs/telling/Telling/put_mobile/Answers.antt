@@ -12,10 +12,13 @@ use Rattle.mip_afresh.proofs.telling.Telling.put_mobile.Goals as goal
 pub invariant_of-self : goal.invariant_of-self
 invariant_of-self c =
     let s = c.self.inside.setting in
-    let roles = c.self.inside.roles.items in
-    (c.self.invariant.0, c.self.invariant.1, c.self.invariant.2,
-    subst (AreOf s) (sym (c.exchange-before.ensures.new ∙ ap (λ k. slice_set roles k (Mobile c.args.mobile)) c.from.ensures))
-    (set_of s roles c.args.node.0 (Mobile c.args.mobile) c.self.invariant.3 (subst (λ (t : TellingSeen). IsMobile t.setup c.args.node.0 c.args.mobile) (sym c.self.view_is) c.requires)))
+    let roles = c.self.inside.roles.items in (
+      c.self.invariant.0,
+      c.self.invariant.1,
+      c.self.invariant.2,
+      subst (AreOf s) (sym (c.exchange-before.ensures.new ∙ ap (λ k. slice_set roles k (Mobile c.args.mobile)) c.from.ensures))
+          (set_of s roles c.args.node.0 (Mobile c.args.mobile) c.self.invariant.3 (subst (λ (t : TellingSeen). IsMobile t.setup c.args.node.0 c.args.mobile) (sym c.self.view_is) c.requires)),
+    )
 
 pub returns : goal.returns
 returns c =
