@@ -4,9 +4,7 @@ use Rattle.std.specs.Prelude.{Option, Some, None, unwrap_or, slice_get, slice_se
 use Rattle.mip_words.specs.declared.address.Address.{Address}
 use Rattle.mip_nonce.specs.Secrets.{Life}
 use Rattle.mip_entries.specs.declared.answer.Answer.{Answer}
-use Rattle.mip_entries.specs.declared.entry.Entry.TheVariants.{Idle}
 use Rattle.mip_entries.specs.Stamped.{Stamped}
-use Rattle.mip_rules_correspondent.specs.Calls as correspondents
 use Rattle.mip_rules_agent.specs.Calls as agents
 use Rattle.mip_rules_agent.specs.Steps as agent_steps
 use Rattle.mip_rules_agent.specs.Questions as agent_questions
@@ -17,18 +15,16 @@ use Rattle.mip_rules_mobile.specs.Steps as mobile_steps
 use Rattle.mip_rules_mobile.specs.Questions as mobile_questions
 use Rattle.mip_rules_mobile.specs.Transitions as mobile_transitions
 use Rattle.mip_rules_mobile.specs.Doing as mobile_doing
-use Rattle.mip_history.specs.Setup.{Setup, Host, Kind}
-use Rattle.mip_history.specs.Setup.Kind.{Correspondent, Agent as OfAgent, Mobile as OfMobile}
-use Rattle.mip_history.specs.Runs.{Run, note, with_agent_past, with_mobile_past, agent_past_at, mobile_past_at}
+use Rattle.mip_history.specs.Setup.{Setup}
+use Rattle.mip_history.specs.Runs.{Run, with_agent_past, with_mobile_past, agent_past_at, mobile_past_at}
 use Rattle.mip_history.specs.RunsLaws.{IsRun}
-use Rattle.mip_history.specs.Calls.{Call, for_correspondent, for_agent, for_mobile}
+use Rattle.mip_history.specs.Calls.{Call, for_agent, for_mobile}
 use Rattle.mip_history.specs.Knowing.{link_or_first, now_in, secrets_in, stands_on, around_in, agent_of, agent_known_in, mobile_known_in}
-use Rattle.mip_history.specs.Nodes.{answered, asks, by_kind, by_host, acts, after_agent_transition, after_mobile_transition}
+use Rattle.mip_history.specs.Nodes.{answered, asks, by_host, acts, after_agent_transition, after_mobile_transition}
 use Rattle.mip_afresh_agent.specs.Agents as of_agent
 use Rattle.mip_afresh_agent.specs.Agents.{AgentSeen}
 use Rattle.mip_afresh_mobile.specs.Nodes as of_mobile
 use Rattle.mip_afresh_mobile.specs.Nodes.{NodeSeen}
-use Rattle.mip_afresh_nodes.specs.Plain.{is_plain, is_plain_at}
 use Rattle.mip_afresh.specs.declared.role.Role.TheVariants.{Agent, Mobile}
 use Rattle.mip_afresh.specs.Tellings.{TellingSeen, with_run}
 use Rattle.mip_afresh.specs.Roles.{agent_host, mobile_host, IsAgent, IsMobile, IsAgentOut, IsMobileOut, IsTaken}
@@ -132,31 +128,3 @@ module _ (old new : TellingSeen) (n : ℕ) where
 
   pub mobile_run : (m : NodeSeen) → IsTaken old new n (Mobile m) → IsRun old.setup old.run → IsRun new.setup (with_mobile_past n m.past new.run)
   mobile_run m taken run = subst (λ (t : TellingSeen). IsRun t.setup t.run) taken.1 run
-
-  -- what is nothing to it leaves `idle`
-  pub agent_idle : (a : AgentSeen) (call : Call) → IsTaken old new n (Agent a) → for_agent (around_in new.run n None) call ≡ None
-      → with_run (note Idle (with_agent_past n a.past new.run)) new ≡ with_run (acts old.setup n call old.run) old
-  agent_idle a call taken e =
-      ap (λ (r : Run). with_run r new) (sym (ap (by_host new.setup n call (with_agent_past n a.past new.run)) (let out = taken.0 in out.is)
-      ∙ ap (λ (o : Option agents.Call). asks _ o (with_agent_past n a.past new.run)) e))
-      ∙ agent_back a call taken
-
-  pub mobile_idle : (m : NodeSeen) (call : Call) → IsTaken old new n (Mobile m) → for_mobile (around_in new.run n (Some m.home.0)) m.home call ≡ None
-      → with_run (note Idle (with_mobile_past n m.past new.run)) new ≡ with_run (acts old.setup n call old.run) old
-  mobile_idle m call taken e =
-      ap (λ (r : Run). with_run r new) (sym (ap (by_host new.setup n call (with_mobile_past n m.past new.run)) (let out = taken.0 in let is = out.is in is.host)
-      ∙ ap (λ (o : Option mobiles.Call). asks _ o (with_mobile_past n m.past new.run)) e))
-      ∙ mobile_back m call taken
-
--- nor is it anything to a correspondent, or to nobody
-pub plain_idle : (s : Setup) (n : ℕ) (run : Run) (call : Call) → is_plain_at s n ≡ true → for_correspondent call ≡ None → note Idle run ≡ acts s n call run
-plain_idle s n run call is e = by (slice_get s.hosts n) is
-  where
-    by : (o : Option Host) → is_plain o ≡ true → note Idle run ≡ by_host s n call run o
-    by None is = refl
-    by (Some host) is = of_kind host.address host.kind is
-      where
-        of_kind : (own : Address) (kind : Kind) → is_plain (Some (record { address = own; kind = kind })) ≡ true → note Idle run ≡ by_kind s n own call run kind
-        of_kind own (Correspondent room) is = sym (ap (λ (o : Option correspondents.Call). asks _ o run) e)
-        of_kind own (OfAgent preference life room serves) is = absurd cc
-        of_kind own (OfMobile agent) is = absurd cc

@@ -8,3 +8,4 @@ mod WaitLaws
 mod PartLaws
 mod RestartLaws
 mod AdvertLaws
+mod PartShown

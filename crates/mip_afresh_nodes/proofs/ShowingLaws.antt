@@ -28,10 +28,10 @@ use Rattle.mip_afresh_nodes.specs.Members.{IsMember, known_to}
 use Rattle.mip_afresh_nodes.specs.Rows.{entry_of}
 
 -- what was accepted by a moment came by then
-abbrev ByThen : ℕ → List Acceptance → Type 0
+abbrev pub ByThen : ℕ → List Acceptance → Type 0
 ByThen now xs = AllByRecursion (λ a. a.at ≤ now) xs
 
-accepted_by_then : (now : ℕ) (past : List (Stamped Step)) → AllByRecursion (λ s. s.at ≤ now) past → ByThen now (accepted_in past)
+pub accepted_by_then : (now : ℕ) (past : List (Stamped Step)) → AllByRecursion (λ s. s.at ≤ now) past → ByThen now (accepted_in past)
 unfolding accepted_in
 accepted_by_then now [] all = tt
 accepted_by_then now (s ∷ past) all = by s.step (accepted_by_then now past all.1)
@@ -45,7 +45,7 @@ accepted_by_then now (s ∷ past) all = by s.step (accepted_by_then now past all
     by (HandsUp number source destination proto payload) more = more
     by Idles more = more
 
-early_seen : (now : ℕ) (xs : List found.Acceptance) → now < 2 ^ 62 → ByThen now (map acceptance_seen xs) → AllByRecursion IsEarly xs
+pub early_seen : (now : ℕ) (xs : List found.Acceptance) → now < 2 ^ 62 → ByThen now (map acceptance_seen xs) → AllByRecursion IsEarly xs
 early_seen now [] early all = tt
 early_seen now (x ∷ xs) early all = (let at = all.0 in omega (arith, early, at), early_seen now xs early all.1)
 
@@ -58,7 +58,7 @@ member_early s run m xs is host early took =
     (early_seen (now_in s run) xs early (subst (ByThen (now_in s run)) (p.accepted ∙ sym took) (accepted_by_then (now_in s run) (past_at run m.node.0) p.early)))
 
 -- the entry of a row is that of what it shows
-entries_seen : (node : NodeId) (rows : List Row) → map (row_entry node.0) rows ≡ map (entry_of node) (map seen_row rows)
+pub entries_seen : (node : NodeId) (rows : List Row) → map (row_entry node.0) rows ≡ map (entry_of node) (map seen_row rows)
 entries_seen node [] = refl
 entries_seen node (r ∷ rows) = ap (λ (es : List Entry). row_entry node.0 r ∷ es) (entries_seen node rows)
 

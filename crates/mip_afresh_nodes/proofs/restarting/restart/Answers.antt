@@ -9,4 +9,4 @@ pub returns-then-is_mobile : goal.returns-then-is_mobile
 returns-then-is_mobile c =
     let t = c.args.telling.now in
     subst (λ (run : Run). OnOk c.restart_roaming.result (c.restart_roaming.new.telling ≡ with_run run t))
-    (mobile_reborn t.setup t.run c.args.node.0 (sym c.if-is_mobile.ensures ∙ c.if-is_mobile.true)) c.restart_roaming.ensures
+    (mobile_reborn t.setup t.run c.args.node.0 (sym c.is_mobile.ensures ∙ c.if-is_mobile.true)) c.restart_roaming.ensures

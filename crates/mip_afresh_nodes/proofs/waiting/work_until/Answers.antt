@@ -10,7 +10,10 @@ use Rattle.mip_afresh_nodes.proofs.WaitLaws.{wait_rests, wait_goes, wait_ends, w
 use Rattle.mip_afresh_nodes.proofs.waiting.work_until.Goals as goal
 
 pub loop-round-init : goal.loop-round-init
-loop-round-init c = record { setup = refl; rest = refl }
+loop-round-init c =
+    let fn = c.args.telling.now in
+    let all : c.args.rounds - 0 ≡ c.args.rounds = omega arith in
+    record { setup = refl; rest = ap (λ (n : ℕ). works_until fn.setup c.args.target.0 n (waiting fn false)) all }
 
 pub returns-in-None : goal.returns-in-None
 returns-in-None c =
