@@ -33,7 +33,9 @@ fn router_at(telling: &Telling, link: LinkId, node: NodeId) -> Option<Router>
     let host = telling.host(node)?;
     match host.kind {
         Kind::Agent {
-            preference, life, ..
+            preference,
+            life,
+            ..
         } if is_link(telling.link_of(host.address), link) => Some(Router {
             address: host.address,
             preference,
@@ -158,7 +160,12 @@ fn attach(alloc: Global, telling: &mut Telling, node: NodeId, prefix: Prefix) ->
 }
 
 /// A mobile on the link is told of its prefix, and an entry says so.
-fn tell_mobile(alloc: Global, telling: &mut Telling, link: LinkId, node: NodeId) -> Result<(), Memory>
+fn tell_mobile(
+    alloc: Global,
+    telling: &mut Telling,
+    link: LinkId,
+    node: NodeId,
+) -> Result<(), Memory>
     ensures { OnOk result (telling.new ≡ with_run (mobile_told telling.old.setup link.0 node.0 telling.old.run) telling.old) }
 {
     if !roams_on(telling, link, node) {

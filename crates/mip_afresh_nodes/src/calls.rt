@@ -11,8 +11,8 @@ ghost use Rattle.mip_afresh.specs.Tellings.{with_run};
 ghost use Rattle.mip_afresh_nodes.specs.Members.{IsMember};
 
 use crate::acting::act;
-use crate::answers::{about_data, about_packet, about_refresh};
 use crate::agents::{hand_to_agent, plan_by_agent};
+use crate::answers::{about_data, about_packet, about_refresh};
 use crate::idling::{idle_agent, idle_mobile, idle_plain};
 use crate::member::{Member, member_of};
 use crate::mobiles::{ask_by_mobile, hand_to_mobile, refresh_by_mobile, send_by_mobile};
@@ -58,10 +58,26 @@ pub fn take(
 {
     match telling.take_role(node) {
         Role::Agent(agent) => {
-            hand_to_agent(alloc, telling, node, agent, number, shield, packet.as_slice())
+            hand_to_agent(
+                alloc,
+                telling,
+                node,
+                agent,
+                number,
+                shield,
+                packet.as_slice(),
+            )
         }
         Role::Mobile(mobile) => {
-            hand_to_mobile(alloc, telling, node, mobile, number, shield, packet.as_slice())
+            hand_to_mobile(
+                alloc,
+                telling,
+                node,
+                mobile,
+                number,
+                shield,
+                packet.as_slice(),
+            )
         }
         Role::Plain => match member_of(telling, node)? {
             Some(member) => take_as(alloc, telling, member, number, shield, packet),
