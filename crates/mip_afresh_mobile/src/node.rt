@@ -319,6 +319,16 @@ impl Node {
         self.past.home()
     }
 
+    /// What it knows, but for the bindings of its correspondent part; none after a call that found no memory.
+    pub fn mobile(&self) -> Option<&Mobile>
+        ensures { IfSome result (λ m. seen_of (known_to self.now) ≡ m.now) }
+    {
+        match &self.mobile {
+            Some(mobile) => Some(mobile),
+            None => None,
+        }
+    }
+
     /// When work is due next.
     pub fn due(&self) -> Option<Moment>
         ensures { result ≡ first_due (known_to self.now).list.timers }

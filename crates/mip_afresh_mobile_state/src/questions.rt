@@ -1,6 +1,6 @@
 //! What a mobile knows, a function a question.
 
-ghost use Rattle.std.specs.Prelude.{◌≡◌, length, is_some, option_map};
+ghost use Rattle.std.specs.Prelude.{◌≡◌, length, map, is_some, option_map};
 ghost use Rattle.mip_bulist.specs.declared.tested.Test as tests;
 ghost use Rattle.mip_bulist.specs.Rows.{given_row};
 ghost use Rattle.mip_bulist.specs.Timers.{due_work, first_due};
@@ -10,12 +10,13 @@ ghost use Rattle.mip_rules_mobile.specs.HomeQuestions.{home_of, binding_number_o
 ghost use Rattle.mip_rules_mobile.specs.DiscoveryQuestions.{next_found};
 ghost use Rattle.mip_rules_mobile.specs.RowQuestions.{first_cookie, second_cookie, lies_ahead, row_of, peer_of_row, trial_of, is_bound_row, is_touched_row, wait_of_row, bound_row_of};
 ghost use Rattle.mip_afresh_mobile_state.specs.Mobiles.{seen_of};
-ghost use Rattle.mip_afresh_mobile_state.specs.Trials.{any_seen, discovery_seen, given_seen};
+ghost use Rattle.mip_afresh_mobile_state.specs.Trials.{any_seen, discovery_seen, given_seen, row_seen, timer_seen};
 
 use crate::discovery::Discovery;
 use crate::mobile::Mobile;
 use crate::row::Row;
 use crate::rows::{ROOM, row_place};
+use crate::timer::Timer;
 use mip_bulist::{Made, Refused, Work};
 use mip_rules_mobile::{Attachment, HomeUpdate, Numbering, Registered};
 use mip_words::{Address, Cookie, Moment};
@@ -167,6 +168,20 @@ impl Mobile {
         self.places % self.numbers
     }
 
+    /// The sequences of the next home registrations, an agent each.
+    pub fn numberings(&self) -> &[Numbering]
+        ensures { result.now ≡ self.now.numberings }
+    {
+        &self.numberings
+    }
+
+    /// The agents that the last matching reply named.
+    pub fn found(&self) -> &[Address]
+        ensures { result.now ≡ self.now.found }
+    {
+        &self.found
+    }
+
     /// The next agent of those found.
     pub fn next_found(&self) -> Option<Address>
         ensures { (k : Known) → seen_of k ≡ self.now → result ≡ next_found k }
@@ -186,6 +201,13 @@ impl Mobile {
         ensures { (k : Known) → seen_of k ≡ self.now → result ≡ second_cookie k }
     {
         self.identity.secrets.cookie(self.cookies.wrapping_add(1))
+    }
+
+    /// A row for each peer, in the order in which they were made.
+    pub fn rows(&self) -> &[Row]
+        ensures { map row_seen result.now ≡ self.now.list.rows }
+    {
+        &self.rows
     }
 
     /// The row of a peer.
@@ -318,6 +340,13 @@ impl Mobile {
         ensures { (k : Known) → seen_of k ≡ self.now → result ≡ length k.list.timers }
     {
         self.timers.len()
+    }
+
+    /// The work that is set, by its moment, ties in the order in which it was set.
+    pub fn work(&self) -> &[Timer]
+        ensures { map timer_seen result.now ≡ self.now.list.timers }
+    {
+        &self.timers
     }
 
     /// The first timer's work, where it is due.

@@ -57,6 +57,13 @@ impl Run {
         Ok(true)
     }
 
+    /// The setting and the run so far, with what is kept of its nodes.
+    pub fn telling(&self) -> &Telling
+        ensures { result.now ≡ self.now.telling }
+    {
+        &self.telling
+    }
+
     /// What has happened so far.
     pub fn history(&self) -> &History
         ensures { result.now ≡ self.now.telling.run.past }

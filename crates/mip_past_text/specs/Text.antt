@@ -1,13 +1,12 @@
 -- The text of what was known at a place of a history: the moment, then of each node that is asked for a line a question, with its answer.
-use Rattle.std.specs.Prelude.{ℕ, zero, suc, List, [], ◌∷◌, ◌++◌, length, Bool, true, false, if◌then◌else◌, Option, Some, None, option_map, slice_get, codes, decimal}
+use Rattle.std.specs.Prelude.{ℕ, zero, suc, List, [], ◌∷◌, ◌++◌, length, Bool, false, if◌then◌else◌, Option, Some, None, option_map, slice_get, codes, decimal}
 use Rattle.mip_words.specs.declared.address.Address.{Address}
 use Rattle.mip_words.specs.declared.ids.NodeId.{NodeId}
-use Rattle.mip_words.specs.declared.moment.Moment.{Moment}
 use Rattle.mip_binding.specs.Held.{held, held_under, floor}
 use Rattle.mip_lines.specs.HexFields.{address_hex}
 use Rattle.mip_lines.specs.Lines.{line_text}
 use Rattle.mip_symbols.specs.Places.{members, is_agent, is_mobile}
-use Rattle.mip_symbols.specs.Spelled.{node_text, or_word}
+use Rattle.mip_symbols.specs.Spelled.{node_text}
 use Rattle.mip_symbols.specs.declared.declaration.Declaration.{Declaration}
 use Rattle.mip_symbols.specs.declared.places.Sort.TheVariants as sorts
 use Rattle.mip_discovery.specs.declared.plan.PrefixPlan.{PrefixPlan}
@@ -19,57 +18,34 @@ use Rattle.mip_history.specs.Questions.{moment_in}
 use Rattle.mip_history.specs.Bound.{accepted_by}
 use Rattle.mip_history.specs.Registered.{last_registration}
 use Rattle.mip_history.specs.Told.{agent_in, is_bound_in, careof_in}
-use Rattle.mip_rules_mobile.specs.declared.attachment.Attachment.{Attachment}
-use Rattle.mip_rules_mobile.specs.declared.attachment.Attachment.TheVariants.{Detached, AtHome, Away}
 use Rattle.mip_past.specs.Asking.{present_told, standing_told, leaves_told, binding_number_told, registered_until_in}
 use Rattle.mip_past.specs.Hearing.{router_of, agents_in}
 use Rattle.mip_past.specs.Planning.{begun_from, plan_told}
 use Rattle.mip_past.specs.Registering.{agent_of_told}
 use Rattle.mip_past.specs.Due.{due_work_in}
+use Rattle.mip_afresh.specs.Tellings.{TellingSeen}
+use Rattle.mip_past_led.specs.Leading.{mobile_at}
+use Rattle.mip_past_text.specs.Answers.{address_answer, careof_answer, number_answer, moment_answer, standing_answer, yes_or_no, line_if}
+use Rattle.mip_past_text.specs.Led.{led_text}
 use Rattle.mip_past_text.specs.Subjects.{about_each}
 use Rattle.mip_past_text.specs.declared.topic.Topic.{Topic}
 use Rattle.mip_past_text.specs.declared.topic.Topic.TheVariants.{Binding, Registration, Peer}
-
--- an answer, and `-` where there is none
-abbrev pub address_answer : Option Address → List ℕ
-address_answer answer = or_word (codes "-") address_hex answer
-
-abbrev pub careof_answer : Option ℕ → List ℕ
-careof_answer answer = or_word (codes "-") (λ a. address_hex (record { 0 = a })) answer
-
-abbrev pub number_answer : Option ℕ → List ℕ
-number_answer answer = or_word (codes "-") decimal answer
-
-abbrev pub moment_answer : Option Moment → List ℕ
-moment_answer answer = or_word (codes "-") (λ m. decimal m.0) answer
-
-abbrev pub standing_answer : Attachment → List ℕ
-standing_answer Detached = codes "-"
-standing_answer AtHome = codes "home"
-standing_answer (Away careof) = codes "away"
-
-abbrev pub yes_or_no : Bool → List ℕ
-yes_or_no true = codes "yes"
-yes_or_no false = codes "no"
 
 -- `QUESTION NODE ANSWER`, and `QUESTION NODE ADDRESS ANSWER`
 abbrev pub node_line : List Declaration → NodeId → (question answer : List ℕ) → List ℕ
 node_line ds n question answer = line_text (question ∷ node_text ds n ∷ answer ∷ [])
 
--- the line of a question that has an answer; none where there is none
-abbrev pub line_if : (question node : List ℕ) → Option Address → List ℕ
-line_if question node None = []
-line_if question node (Some answer) = line_text (question ∷ node ∷ address_hex answer ∷ [])
-
 abbrev pub subject_line : List Declaration → NodeId → (question : List ℕ) → Address → (answer : List ℕ) → List ℕ
 subject_line ds n question address answer = line_text (question ∷ node_text ds n ∷ address_hex address ∷ answer ∷ [])
 
--- the entries before a place of the history of a schedule of this version that began at a moment, and all its events
+-- the entries before a place of the history of a schedule of this version that began at a moment, all its events, and the run of those
+-- that lie wholly before the place
 pub record Front : Type 0 where
   pub version : ℕ
   pub start : ℕ
   pub events : List Event
   pub past : List Entry
+  pub led : TellingSeen
 
 abbrev pub now_of : Front → ℕ
 now_of f = moment_in f.start f.past
@@ -160,9 +136,9 @@ is_agent_any (Some d) = is_agent d
 abbrev pub agent_text : List Declaration → Front → NodeId → List ℕ
 agent_text ds f n = if is_agent_any (slice_get (members sorts.Node ds) n.0) then plan_text ds f n ++ hears_text ds f n else []
 
--- what is asked of a node of its kind, and about addresses
+-- what is asked of a node of its kind, about addresses, and of a mobile that is led along
 abbrev pub rest_text : List Declaration → Front → NodeId → List ℕ
-rest_text ds f n = mobile_text ds f n ++ (agent_text ds f n ++ about_text ds f n)
+rest_text ds f n = mobile_text ds f n ++ (agent_text ds f n ++ (about_text ds f n ++ led_text (node_text ds n) (mobile_at f.led n.0)))
 
 -- what was known of a node
 unfoldable pub node_known : List Declaration → Front → NodeId → List ℕ

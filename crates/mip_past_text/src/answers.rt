@@ -3,7 +3,8 @@
 ghost use Rattle.std.specs.Prelude.{◌≡◌, ◌++◌, ◌∷◌, [], OnOk, codes, decimal};
 ghost use Rattle.mip_lines.specs.HexFields.{address_hex};
 ghost use Rattle.mip_lines.specs.Lines.{line_text};
-ghost use Rattle.mip_past_text.specs.Text.{address_answer, line_if, moment_answer, number_answer, plan_line, standing_answer, yes_or_no};
+ghost use Rattle.mip_past_text.specs.Answers.{address_answer, line_if, moment_answer, number_answer, standing_answer, yes_or_no};
+ghost use Rattle.mip_past_text.specs.Text.{plan_line};
 
 use mip_discovery::PrefixPlan;
 use mip_lines::{put_line, put_number};

@@ -13,6 +13,7 @@ use crate::answers::{
     put_whether,
 };
 use crate::inquiry::Inquiry;
+use crate::led::put_led;
 use crate::roles::{put_agent, put_mobile};
 use crate::scene::Scene;
 use crate::subjects::{is_named, subject};
@@ -199,13 +200,15 @@ fn put_about(alloc: Global, out: &mut Bytes, asked: Inquiry<'_>) -> Result<(), M
     put_topics(alloc, out, asked, Topic::Peer)
 }
 
-/// Appends what is asked of a node of its kind, and about addresses.
+/// Appends what is asked of a node of its kind, about addresses, and of a mobile that is led along.
 fn put_rest(alloc: Global, out: &mut Bytes, asked: Inquiry<'_>) -> Result<(), Memory>
     ensures { OnOk result (out.new ≡ out.old ++ rest_text asked.entry.scene.declarations.now (front_of asked.entry.scene) asked.entry.node) }
 {
     put_mobile(alloc, out, asked)?;
     put_agent(alloc, out, asked)?;
-    put_about(alloc, out, asked)
+    put_about(alloc, out, asked)?;
+    let name = node_name(asked.scene.declarations, asked.node);
+    put_led(alloc, out, name, asked.scene.led, asked.node)
 }
 
 /// Appends what was known of a node.

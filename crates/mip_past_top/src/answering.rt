@@ -11,6 +11,7 @@ ghost use Rattle.mip_past_top.specs.Answers.{front_by, known_answer, named_answe
 use crate::ask::Ask;
 use mip_audit::cut_trace;
 use mip_past::Past;
+use mip_past_led::Led;
 use mip_past_text::{Scene, known};
 use mip_replay::replay;
 use mip_replies::{LIMIT, Reply, Status, audited, bad};
@@ -92,7 +93,8 @@ fn known_then(
 {
     let history = replay(alloc, schedule)?;
     let past = Past::before(history.as_slice(), line as usize, schedule.start);
-    let text = text_at(alloc, schedule, past, node)?;
+    let led = Led::to(alloc, schedule, line as usize)?;
+    let text = text_at(alloc, schedule, past, &led, node)?;
     Ok(Reply::whole(Status::OK, text))
 }
 
@@ -101,9 +103,10 @@ fn text_at<'a>(
     alloc: Global,
     schedule: &'a Schedule,
     past: Past<'a>,
+    led: &'a Led,
     node: Option<NodeId>,
 ) -> Result<Bytes, Memory>
-    ensures { IfOk result (λ text. text ≡ known_text (content schedule.now).declarations (front_by (content schedule.now) past.entry) node) }
+    ensures { IfOk result (λ text. text ≡ known_text (content schedule.now).declarations (front_by (content schedule.now) past.entry led.now) node) }
 {
     few(schedule);
     let scene = Scene {
@@ -111,6 +114,7 @@ fn text_at<'a>(
         declarations: schedule.declarations.as_slice(),
         events: schedule.events.as_slice(),
         past,
+        led,
     };
     known(alloc, scene, node)
 }

@@ -1,0 +1,23 @@
+-- A run that is led along to a place of its history, and what mobiles know there: a node knows things between two events, so they are
+-- asked behind the events that lie wholly before the place.
+use Rattle.std.specs.Prelude.{ℕ, Option, Some, None, slice_get}
+use Rattle.mip_rules_mobile.specs.Known.{Known}
+use Rattle.mip_schedule.specs.Contents.{Content}
+use Rattle.mip_history.specs.Setup.{Host, setup_of}
+use Rattle.mip_history.specs.Setup.Kind.{Mobile}
+use Rattle.mip_history.specs.Knowing.{mobile_known_in}
+use Rattle.mip_afresh.specs.Tellings.{TellingSeen}
+use Rattle.mip_afresh_run.specs.Runs.{behind}
+use Rattle.mip_past_led.specs.Whole.{whole_before}
+
+-- what a schedule declares, and the run of its events wholly before a place
+abbrev pub led_to : Content → (place : ℕ) → TellingSeen
+led_to c place = behind c (whole_before (setup_of c) c.events place)
+
+-- what node n knows there, if it is a mobile
+abbrev pub known_as : TellingSeen → (n : ℕ) → Option Host → Option Known
+known_as t n (Some (record { address = home; kind = Mobile agent })) = Some (mobile_known_in t.setup t.run n home agent)
+known_as t n _ = None
+
+abbrev pub mobile_at : TellingSeen → (n : ℕ) → Option Known
+mobile_at t n = known_as t n (slice_get t.setup.hosts n)
