@@ -7,6 +7,8 @@ use Rattle.mip_bulist.specs.declared.aim.Aim.{Aim}
 use Rattle.mip_bulist.specs.declared.aim.Aim.TheVariants.{Bind, Delete}
 use Rattle.mip_bulist.specs.declared.any.Any.{Any}
 use Rattle.mip_bulist.specs.declared.any.Any.TheVariants as any
+use Rattle.mip_bulist.specs.declared.home_timer.HomeTimer.{HomeTimer}
+use Rattle.mip_bulist.specs.declared.home_timer.HomeTimer.TheVariants as home_timers
 use Rattle.mip_bulist.specs.declared.row.Row.{Row}
 use Rattle.mip_bulist.specs.declared.tested.Test.{Test}
 use Rattle.mip_bulist.specs.declared.tested.Tested.{Tested}
@@ -21,16 +23,24 @@ use Rattle.mip_past_led.specs.declared.cookies.Cookies.{Cookies}
 use Rattle.mip_past_led.specs.declared.kept.Kept.{Kept}
 use Rattle.mip_past_led.specs.declared.kept.KeptTest.{KeptTest}
 use Rattle.mip_past_led.specs.declared.due.Due.{Due}
+use Rattle.mip_past_led.specs.declared.task.Task.{Task}
+use Rattle.mip_past_led.specs.declared.task.Task.TheVariants as tasks
 use Rattle.mip_past_led.specs.declared.trial_state.TrialState.{TrialState}
 use Rattle.mip_past_led.specs.declared.trial_state.TrialState.TheVariants as states
 
--- the peers that have a row, in the order in which they got it
-abbrev pub peers_of : List Row → List Address
+-- the peers that have a row, in the order in which they got it, and the row of one
+abbrev pub Rows : Type 0
+Rows = List Row
+
+abbrev pub peers_of : Rows → List Address
 peers_of rows = map (λ r. r.peer) rows
 
+abbrev pub row_with : Rows → Address → Option ℕ
+row_with rows peer = row_place peer rows
+
 -- return routability with a peer, where it has a row
-abbrev pub trial_with : List Row → Address → Option Any
-trial_with rows peer = option_and_then (λ row. lifted row rows) (row_place peer rows)
+abbrev pub trial_with : Rows → Address → Option Any
+trial_with rows peer = option_and_then (λ row. lifted row rows) (row_with rows peer)
 
 -- how far it is; nothing is under way with a peer that has no row
 abbrev pub state_of : Any → TrialState
@@ -40,7 +50,7 @@ state_of (any.Proved t) = states.Proved
 state_of (any.Pending t) = states.Pending
 state_of (any.Bound t) = states.Bound
 
-abbrev pub state_with : List Row → Address → TrialState
+abbrev pub state_with : Rows → Address → TrialState
 state_with rows peer = option_map_or state_of (trial_with rows peer) states.Idle
 
 -- the cookies that a test of the peer has to return, while one is waited for: a deletion asks for no Care-of Test
@@ -52,7 +62,7 @@ abbrev pub cookies_of : Any → Option Cookies
 cookies_of (any.Probing t) = Some (record { home = t.state.home_cookie; careof = careof_cookie_for t.state.aim t.state.careof_cookie })
 cookies_of _ = None
 
-abbrev pub cookies_with : List Row → Address → Option Cookies
+abbrev pub cookies_with : Rows → Address → Option Cookies
 cookies_with rows peer = option_and_then cookies_of (trial_with rows peer)
 
 -- the tests that are kept for the next update to the peer, from the first that comes to the acknowledgement of the update
@@ -72,7 +82,7 @@ kept_of (any.Proved t) = both_kept t.state.tested
 kept_of (any.Pending t) = both_kept t.state.tested
 kept_of _ = nothing_kept
 
-abbrev pub kept_with : List Row → Address → Kept
+abbrev pub kept_with : Rows → Address → Kept
 kept_with rows peer = option_map_or kept_of (trial_with rows peer) nothing_kept
 
 -- the sequence that the next update to the peer takes, 1 to one that has no row
@@ -83,7 +93,7 @@ next_of (any.Proved t) = t.next
 next_of (any.Pending t) = t.next
 next_of (any.Bound t) = t.next
 
-abbrev pub next_to_peer : List Row → Address → ℕ
+abbrev pub next_to_peer : Rows → Address → ℕ
 next_to_peer rows peer = option_map_or next_of (trial_with rows peer) 1
 
 -- the agents to which a home registration went, or that told a sequence
@@ -91,14 +101,26 @@ abbrev pub agents_of : List Numbering → List Address
 agents_of numberings = map (λ n. n.agent) numberings
 
 -- the work ahead, by its moment, ties in the order in which it was set
-abbrev pub peer_of_work : List Row → Work → Option Address
+abbrev pub home_task : HomeTimer → Task
+home_task home_timers.Resend = tasks.HomeResend
+home_task home_timers.Renew = tasks.HomeRenew
+home_task home_timers.End = tasks.HomeEnd
+home_task home_timers.Discover = tasks.Discover
+
+abbrev pub task_of : Work → Task
+task_of (works.Resend row) = tasks.Resend
+task_of (works.Renew row) = tasks.Renew
+task_of (works.End row) = tasks.End
+task_of (works.Home timer) = home_task timer
+
+abbrev pub peer_of_work : Rows → Work → Option Address
 peer_of_work rows (works.Resend row) = peer_at row rows
 peer_of_work rows (works.Renew row) = peer_at row rows
 peer_of_work rows (works.End row) = peer_at row rows
 peer_of_work rows (works.Home timer) = None
 
-abbrev pub due_of : List Row → Timer → Due
-due_of rows t = record { at = t.due; work = t.work; peer = peer_of_work rows t.work }
+abbrev pub due_of : Rows → Timer → Due
+due_of rows t = record { at = t.due; task = task_of t.work; peer = peer_of_work rows t.work }
 
 abbrev pub due_work_of : ListSeen → List Due
 due_work_of list = map (due_of list.rows) list.timers

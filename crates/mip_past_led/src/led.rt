@@ -3,8 +3,7 @@ ghost use Rattle.mip_words.specs.declared.address.Address.{Address};
 ghost use Rattle.mip_schedule.specs.Schedules.{content};
 ghost use Rattle.mip_history.specs.Setup.Kind.{Mobile};
 ghost use Rattle.mip_history.specs.Knowing.{mobile_known_in};
-ghost use Rattle.mip_afresh_mobile_state.specs.Mobiles.{seen_of};
-ghost use Rattle.mip_past_led.specs.Leading.{led_to, mobile_at};
+ghost use Rattle.mip_past_led.specs.Leading.{led_to, mobile_at, shown_of};
 
 use crate::mobile::LedMobile;
 use crate::whole::{run_behind, whole_before};
@@ -43,7 +42,7 @@ impl Led {
     /// What a declared mobile knows. One that was taken out is answered as if memory had run out.
     fn known(&self, node: NodeId) -> Result<LedMobile<'_>, Memory>
         ensures { (home : Address) (agent : Option Address) → slice_get self.now.setup.hosts node.0 ≡ Some (record { address = home; kind = Mobile agent })
-            → IfOk result (λ m. m ≡ seen_of (mobile_known_in self.now.setup self.now.run node.0 home agent)) }
+            → IfOk result (λ m. m ≡ shown_of (mobile_known_in self.now.setup self.now.run node.0 home agent)) }
     {
         match self.run.telling().role(node) {
             Some(Role::Mobile(node)) => match node.mobile() {
@@ -56,7 +55,7 @@ impl Led {
 
     /// A mobile there; none where the node is no mobile.
     pub fn mobile(&self, node: NodeId) -> Result<Option<LedMobile<'_>>, Memory>
-        ensures { IfOk result (λ m. m ≡ option_map seen_of (mobile_at self.now node.0)) }
+        ensures { IfOk result (λ m. m ≡ option_map shown_of (mobile_at self.now node.0)) }
     {
         match self.run.telling().host(node) {
             Some(host) => match host.kind {

@@ -3,12 +3,13 @@
 ghost use Rattle.std.specs.Prelude.{◌≡◌, IfOk, map};
 ghost use Rattle.mip_afresh_mobile_state.specs.Trials.{row_seen, timer_seen};
 ghost use Rattle.mip_bulist.specs.Rows.{peer_at};
-ghost use Rattle.mip_past_led.specs.Questions.{peers_of, agents_of, peer_of_work, due_of, due_work_of};
+ghost use Rattle.mip_past_led.specs.Questions.{peers_of, agents_of, home_task, task_of, peer_of_work, due_of, due_work_of};
 
 use crate::due::Due;
 use crate::mobile::LedMobile;
+use crate::task::Task;
 use mip_afresh_mobile_state::{Row, Timer};
-use mip_bulist::Work;
+use mip_bulist::{HomeTimer, Work};
 use mip_rules_mobile::Numbering;
 use mip_words::{Address, Memory};
 use std::alloc::Global;
@@ -45,6 +46,30 @@ fn peer_at(rows: &[Row], row: u8) -> Option<Address>
     }
 }
 
+/// What a timer of the home registration is set for.
+fn home_task(timer: HomeTimer) -> Task
+    ensures { result ≡ home_task timer }
+{
+    match timer {
+        HomeTimer::Resend => Task::HomeResend,
+        HomeTimer::Renew => Task::HomeRenew,
+        HomeTimer::End => Task::HomeEnd,
+        HomeTimer::Discover => Task::Discover,
+    }
+}
+
+/// What a timer is set for.
+fn task_of(work: Work) -> Task
+    ensures { result ≡ task_of work }
+{
+    match work {
+        Work::Resend(_) => Task::Resend,
+        Work::Renew(_) => Task::Renew,
+        Work::End(_) => Task::End,
+        Work::Home(timer) => home_task(timer),
+    }
+}
+
 /// The peer that work is about.
 fn peer_of_work(rows: &[Row], work: Work) -> Option<Address>
     ensures { result ≡ peer_of_work (map row_seen rows.now) work }
@@ -63,7 +88,7 @@ fn due_in(alloc: Global, rows: &[Row], timers: &[Timer]) -> Result<Vec<Due>, Mem
     for timer in timers {
         due.push(Due {
             at: timer.due,
-            work: timer.work,
+            task: task_of(timer.work),
             peer: peer_of_work(rows, timer.work),
         })?;
     }

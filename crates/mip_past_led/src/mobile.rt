@@ -1,8 +1,7 @@
 ghost use Rattle.std.specs.Prelude.{◌≡◌, option_map, is_some, slice_get};
-ghost use Rattle.mip_bulist.specs.Rows.{row_place};
 ghost use Rattle.mip_rules_mobile.specs.HomeQuestions.{next_to};
 ghost use Rattle.mip_afresh_mobile_state.specs.Trials.{any_seen};
-ghost use Rattle.mip_past_led.specs.Questions.{trial_with, state_with, cookies_with, kept_with, next_to_peer};
+ghost use Rattle.mip_past_led.specs.Questions.{row_with, trial_with, state_with, cookies_with, kept_with, next_to_peer};
 
 use crate::cookies::Cookies;
 use crate::kept::{Kept, NOTHING};
@@ -30,13 +29,13 @@ impl LedMobile<'_> {
     /// The row of a peer, its number among those that have one: at most 16 get one, in the order in which they first sent through the
     /// tunnel, until a restart.
     pub fn row_of(&self, peer: Address) -> Option<u8>
-        ensures { result ≡ row_place peer self.now.list.rows }
+        ensures { result ≡ row_with self.now.list.rows peer }
     {
         self.mobile.row_of(peer)
     }
 
     /// Return routability with a peer, where it has a row.
-    fn row_with(&self, peer: Address) -> Option<Row>
+    fn any_row(&self, peer: Address) -> Option<Row>
         ensures { option_map (λ r. any_seen r.peer r.trial) result ≡ trial_with self.now.list.rows peer }
     {
         match self.mobile.row_of(peer) {
@@ -49,7 +48,7 @@ impl LedMobile<'_> {
     pub fn trial(&self, peer: Address) -> TrialState
         ensures { result ≡ state_with self.now.list.rows peer }
     {
-        match self.row_with(peer) {
+        match self.any_row(peer) {
             Some(row) => state_of(&row.trial),
             None => TrialState::Idle,
         }
@@ -59,7 +58,7 @@ impl LedMobile<'_> {
     pub fn cookies(&self, peer: Address) -> Option<Cookies>
         ensures { result ≡ cookies_with self.now.list.rows peer }
     {
-        match self.row_with(peer) {
+        match self.any_row(peer) {
             Some(row) => cookies_of(&row.trial),
             None => None,
         }
@@ -69,7 +68,7 @@ impl LedMobile<'_> {
     pub fn kept(&self, peer: Address) -> Kept
         ensures { result ≡ kept_with self.now.list.rows peer }
     {
-        match self.row_with(peer) {
+        match self.any_row(peer) {
             Some(row) => kept_of(&row.trial),
             None => NOTHING,
         }
@@ -79,7 +78,7 @@ impl LedMobile<'_> {
     pub fn next_to_peer(&self, peer: Address) -> u16
         ensures { result ≡ next_to_peer self.now.list.rows peer }
     {
-        match self.row_with(peer) {
+        match self.any_row(peer) {
             Some(row) => row.trial.next,
             None => 1,
         }

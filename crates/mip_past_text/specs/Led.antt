@@ -6,12 +6,6 @@ use Rattle.mip_words.specs.declared.token.Cookie.{Cookie}
 use Rattle.mip_lines.specs.HexFields.{address_hex, number_hex}
 use Rattle.mip_lines.specs.Lines.{line_text}
 use Rattle.mip_symbols.specs.Spelled.{or_word}
-use Rattle.mip_bulist.specs.declared.home_timer.HomeTimer.{HomeTimer}
-use Rattle.mip_bulist.specs.declared.home_timer.HomeTimer.TheVariants as home_timers
-use Rattle.mip_bulist.specs.declared.row.Row.{Row}
-use Rattle.mip_bulist.specs.declared.work.Work.{Work}
-use Rattle.mip_bulist.specs.declared.work.Work.TheVariants as works
-use Rattle.mip_bulist.specs.Rows.{row_place}
 use Rattle.mip_rules_mobile.specs.declared.numbering.Numbering.{Numbering}
 use Rattle.mip_rules_mobile.specs.HomeQuestions.{next_to}
 use Rattle.mip_rules_mobile.specs.Known.{Known}
@@ -19,9 +13,11 @@ use Rattle.mip_past_led.specs.declared.cookies.Cookies.{Cookies}
 use Rattle.mip_past_led.specs.declared.due.Due.{Due}
 use Rattle.mip_past_led.specs.declared.kept.KeptTest.{KeptTest}
 use Rattle.mip_past_led.specs.declared.kept.Kept.{Kept}
+use Rattle.mip_past_led.specs.declared.task.Task.{Task}
+use Rattle.mip_past_led.specs.declared.task.Task.TheVariants.{Resend, Renew, End, HomeResend, HomeRenew, HomeEnd, Discover}
 use Rattle.mip_past_led.specs.declared.trial_state.TrialState.{TrialState}
 use Rattle.mip_past_led.specs.declared.trial_state.TrialState.TheVariants.{Idle, Probing, Proved, Pending, Bound}
-use Rattle.mip_past_led.specs.Questions.{peers_of, state_with, cookies_with, kept_with, next_to_peer, agents_of, due_work_of}
+use Rattle.mip_past_led.specs.Questions.{Rows, peers_of, row_with, state_with, cookies_with, kept_with, next_to_peer, agents_of, due_work_of}
 use Rattle.mip_past_text.specs.Answers.{number_answer, yes_or_no, line_if}
 
 -- `QUESTION NODE ADDRESS ANSWER`
@@ -53,17 +49,17 @@ abbrev pub kept_lines : (node : List ℕ) → Address → Kept → List ℕ
 kept_lines node peer kept = kept_line node peer (codes "home") kept.home ++ kept_line node peer (codes "careof") kept.careof
 
 -- what is asked about a peer that has a row
-abbrev pub tests_lines : (node : List ℕ) → List Row → Address → List ℕ
+abbrev pub tests_lines : (node : List ℕ) → Rows → Address → List ℕ
 tests_lines node rows peer = cookies_line node peer (cookies_with rows peer) ++ kept_lines node peer (kept_with rows peer)
 
-abbrev pub peer_lines : (node : List ℕ) → List Row → Address → List ℕ
+abbrev pub peer_lines : (node : List ℕ) → Rows → Address → List ℕ
 peer_lines node rows peer =
-    asked_line (codes "peer") node peer (number_answer (row_place peer rows))
+    asked_line (codes "peer") node peer (number_answer (row_with rows peer))
     ++ (asked_line (codes "trial") node peer (state_word (state_with rows peer))
     ++ (tests_lines node rows peer
     ++ asked_line (codes "next-update") node peer (decimal (next_to_peer rows peer))))
 
-unfoldable pub peers_lines : (node : List ℕ) → List Row → List Address → List ℕ
+unfoldable pub peers_lines : (node : List ℕ) → Rows → List Address → List ℕ
 peers_lines node rows [] = []
 peers_lines node rows (peer ∷ peers) = peer_lines node rows peer ++ peers_lines node rows peers
 
@@ -76,21 +72,18 @@ agents_lines node numberings [] = []
 agents_lines node numberings (agent ∷ agents) = agent_line node numberings agent ++ agents_lines node numberings agents
 
 -- the work ahead, a line each, and the peer that it is about
-abbrev pub home_word : HomeTimer → List ℕ
-home_word home_timers.Resend = codes "home-resend"
-home_word home_timers.Renew = codes "home-renew"
-home_word home_timers.End = codes "home-end"
-home_word home_timers.Discover = codes "discover"
-
-abbrev pub work_word : Work → List ℕ
-work_word (works.Resend row) = codes "resend"
-work_word (works.Renew row) = codes "renew"
-work_word (works.End row) = codes "end"
-work_word (works.Home timer) = home_word timer
+abbrev pub task_word : Task → List ℕ
+task_word Resend = codes "resend"
+task_word Renew = codes "renew"
+task_word End = codes "end"
+task_word HomeResend = codes "home-resend"
+task_word HomeRenew = codes "home-renew"
+task_word HomeEnd = codes "home-end"
+task_word Discover = codes "discover"
 
 abbrev pub work_fields : Due → Option Address → List (List ℕ)
-work_fields due None = work_word due.work ∷ []
-work_fields due (Some peer) = work_word due.work ∷ address_hex peer ∷ []
+work_fields due None = task_word due.task ∷ []
+work_fields due (Some peer) = task_word due.task ∷ address_hex peer ∷ []
 
 abbrev pub work_line : (node : List ℕ) → Due → List ℕ
 work_line node due = line_text (codes "work" ∷ node ∷ decimal due.at.0 ∷ work_fields due due.peer)

@@ -23,8 +23,7 @@ use Rattle.mip_past.specs.Hearing.{router_of, agents_in}
 use Rattle.mip_past.specs.Planning.{begun_from, plan_told}
 use Rattle.mip_past.specs.Registering.{agent_of_told}
 use Rattle.mip_past.specs.Due.{due_work_in}
-use Rattle.mip_afresh.specs.Tellings.{TellingSeen}
-use Rattle.mip_past_led.specs.Leading.{mobile_at}
+use Rattle.mip_past_led.specs.Leading.{LedSeen, mobile_at}
 use Rattle.mip_past_text.specs.Answers.{address_answer, careof_answer, number_answer, moment_answer, standing_answer, yes_or_no, line_if}
 use Rattle.mip_past_text.specs.Led.{led_text}
 use Rattle.mip_past_text.specs.Subjects.{about_each}
@@ -45,7 +44,7 @@ pub record Front : Type 0 where
   pub start : ℕ
   pub events : List Event
   pub past : List Entry
-  pub led : TellingSeen
+  pub led : LedSeen
 
 abbrev pub now_of : Front → ℕ
 now_of f = moment_in f.start f.past

@@ -1,12 +1,11 @@
 //! What a mobile that is led along has ahead (RFC 6275 sections 11.4.1, 11.7.1, 11.7.2 and 11.8).
 
 ghost use Rattle.std.specs.Prelude.{◌≡◌, ◌++◌, OnOk};
-ghost use Rattle.mip_past_text.specs.Led.{agents_lines, home_word, work_word, work_line, work_lines};
+ghost use Rattle.mip_past_text.specs.Led.{agents_lines, task_word, work_line, work_lines};
 
 use crate::answers::put_number_of;
-use mip_bulist::{HomeTimer, Work};
 use mip_lines::{put_line, put_number};
-use mip_past_led::{Due, LedMobile};
+use mip_past_led::{Due, LedMobile, Task};
 use mip_words::{Address, Bytes, Memory};
 use std::alloc::Global;
 
@@ -28,27 +27,18 @@ pub fn put_agents(
     Ok(())
 }
 
-/// The word of a timer of the home registration.
-fn home_word(timer: HomeTimer) -> &'static [u8]
-    ensures { result.now ≡ home_word timer }
-{
-    match timer {
-        HomeTimer::Resend => b"home-resend",
-        HomeTimer::Renew => b"home-renew",
-        HomeTimer::End => b"home-end",
-        HomeTimer::Discover => b"discover",
-    }
-}
-
 /// The word of work.
-fn work_word(work: Work) -> &'static [u8]
-    ensures { result.now ≡ work_word work }
+fn task_word(task: Task) -> &'static [u8]
+    ensures { result.now ≡ task_word task }
 {
-    match work {
-        Work::Resend(_) => b"resend",
-        Work::Renew(_) => b"renew",
-        Work::End(_) => b"end",
-        Work::Home(timer) => home_word(timer),
+    match task {
+        Task::Resend => b"resend",
+        Task::Renew => b"renew",
+        Task::End => b"end",
+        Task::HomeResend => b"home-resend",
+        Task::HomeRenew => b"home-renew",
+        Task::HomeEnd => b"home-end",
+        Task::Discover => b"discover",
     }
 }
 
@@ -58,7 +48,7 @@ fn put_work(alloc: Global, out: &mut Bytes, node: &[u8], due: Due) -> Result<(),
 {
     let mut at = Bytes::new(alloc);
     put_number(&mut at, due.at.0)?;
-    let word = work_word(due.work);
+    let word = task_word(due.task);
     match due.peer {
         Some(peer) => put_line(out, &[b"work", node, at.as_slice(), word, &peer.digits()]),
         None => put_line(out, &[b"work", node, at.as_slice(), word]),

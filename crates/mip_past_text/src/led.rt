@@ -3,8 +3,7 @@
 ghost use Rattle.std.specs.Prelude.{◌≡◌, ◌++◌, ◌∷◌, [], OnOk, codes};
 ghost use Rattle.mip_lines.specs.Lines.{line_text};
 ghost use Rattle.mip_rules_mobile.specs.Known.{Known};
-ghost use Rattle.mip_afresh_mobile_state.specs.Mobiles.{seen_of};
-ghost use Rattle.mip_past_led.specs.Leading.{mobile_at};
+ghost use Rattle.mip_past_led.specs.Leading.{mobile_at, shown_of};
 ghost use Rattle.mip_past_text.specs.Led.{found_lines, finding_lines, mobile_lines, led_text};
 ghost use Rattle.mip_past_text.specs.Answers.{yes_or_no};
 
@@ -40,7 +39,7 @@ fn put_discovering(out: &mut Bytes, node: &[u8], is_discovering: bool) -> Result
 
 /// Appends the agents that were found, the one that is chosen next, and whether a discovery is under way.
 fn put_finding(out: &mut Bytes, node: &[u8], mobile: &LedMobile<'_>) -> Result<(), Memory>
-    ensures { (k : Known) → seen_of k ≡ mobile.now → OnOk result (out.new ≡ out.old ++ finding_lines node.now k) }
+    ensures { (k : Known) → shown_of k ≡ mobile.now → OnOk result (out.new ≡ out.old ++ finding_lines node.now k) }
 {
     put_found(out, node, mobile.found())?;
     put_address_if(out, b"next-found", node, mobile.next_found())?;
@@ -54,7 +53,7 @@ fn put_mobile(
     node: &[u8],
     mobile: &LedMobile<'_>,
 ) -> Result<(), Memory>
-    ensures { (k : Known) → seen_of k ≡ mobile.now → OnOk result (out.new ≡ out.old ++ mobile_lines node.now k) }
+    ensures { (k : Known) → shown_of k ≡ mobile.now → OnOk result (out.new ≡ out.old ++ mobile_lines node.now k) }
 {
     let peers = mobile.peers(alloc)?;
     put_peers(alloc, out, node, mobile, &peers)?;

@@ -33,12 +33,7 @@ fn state_word(state: TrialState) -> &'static [u8]
 }
 
 /// Appends `trial NODE PEER STATE`.
-fn put_state(
-    out: &mut Bytes,
-    node: &[u8],
-    peer: Address,
-    state: TrialState,
-) -> Result<(), Memory>
+fn put_state(out: &mut Bytes, node: &[u8], peer: Address, state: TrialState) -> Result<(), Memory>
     ensures { OnOk result (out.new ≡ out.old ++ asked_line (codes "trial") node.now peer (state_word state)) }
 {
     put_line(out, &[b"trial", node, &peer.digits(), state_word(state)])

@@ -13,8 +13,7 @@ use Rattle.mip_audit.specs.Cutting.{cut_text}
 use Rattle.mip_replies.specs.Permitted.{permitted}
 use Rattle.mip_replies.specs.Answers.{Answer, bad_answer, long_answer, audit_answer}
 use Rattle.mip_past.specs.declared.past.Past.{Past}
-use Rattle.mip_afresh.specs.Tellings.{TellingSeen}
-use Rattle.mip_past_led.specs.Leading.{led_to}
+use Rattle.mip_past_led.specs.Leading.{LedSeen, led_to}
 use Rattle.mip_past_text.specs.Text.{Front, known_text}
 use Rattle.mip_past_top.specs.declared.ask.Ask.{Ask}
 
@@ -22,7 +21,7 @@ abbrev pub usage_answer : Answer
 usage_answer = record { status = 1; text = codes "usage: mip-past LINE [NODE]" ++ 10 ∷ [] }
 
 -- what lies before a place of the history of a schedule, and the run that is led along
-abbrev pub front_by : Content → Past → TellingSeen → Front
+abbrev pub front_by : Content → Past → LedSeen → Front
 front_by c p led = record { version = c.version; start = p.start.0; events = c.events; past = p.entries.now; led = led }
 
 -- the history of a schedule before the place
