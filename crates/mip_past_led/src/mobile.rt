@@ -17,7 +17,7 @@ pub struct LedMobile<'a> {
     pub(crate) mobile: &'a Mobile,
 }
 
-impl Model for LedMobile<'_> {
+impl<'a> Model for LedMobile<'a> {
     ghost use Rattle.mip_afresh_mobile_state.specs.Mobiles.{MobileSeen};
 
     ghost Value = { MobileSeen };
