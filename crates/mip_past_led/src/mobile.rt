@@ -38,8 +38,8 @@ impl LedMobile<'_> {
     fn any_row(&self, peer: Address) -> Option<Row>
         ensures { option_map (λ r. any_seen r.peer r.trial) result ≡ trial_with self.now.list.rows peer }
     {
-        match self.mobile.row_of(peer) {
-            Some(row) => self.mobile.trial_of(row),
+        match self.row_of(peer) {
+            Some(row) => self.mobile.rows().get(usize::from(row)).copied(),
             None => None,
         }
     }
