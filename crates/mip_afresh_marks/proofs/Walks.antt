@@ -19,7 +19,7 @@ use Rattle.mip_provenance.specs.Reached.{is_heard}
 use Rattle.mip_provenance.specs.Names.{Naming, is_agent, lives, life_at, number_of_naming, naming, is_own, is_other}
 use Rattle.mip_provenance.specs.Causes.{Claim, new_to, early}
 use Rattle.mip_provenance.proofs.Tokens.{same_bytes, bytes_same}
-use Rattle.mip_afresh_marks.specs.declared.lives.Known.{Known}
+use Rattle.mip_provenance.specs.declared.known.Known.{Known}
 use Rattle.mip_afresh_marks.specs.declared.lives.Lives.{Lives}
 use Rattle.mip_afresh_marks.specs.declared.names.Named.{Named}
 use Rattle.mip_afresh_marks.specs.declared.sight.Sight.{Sight as KeptSight}

@@ -3,14 +3,13 @@
 use Rattle.std.specs.Prelude.{◌≡◌, ◌<◌, ℕ, List, map, take, Bool, false, ◌||◌, if◌then◌else◌, Option, Some, None, option_map, slice_index_or}
 use Rattle.std.specs.List.{list_any, find}
 use Rattle.mip_words.specs.Last.{or_else}
-use Rattle.mip_packets.specs.Says.Carried.{Test}
 use Rattle.mip_provenance.specs.Sights.{Sight}
-use Rattle.mip_provenance.specs.Sights.Sight.{Sent}
+pub use Rattle.mip_provenance.specs.KnownNodes.{stranger, known_step, naming_known}
+use Rattle.mip_provenance.specs.declared.known.Known.{Known}
 use Rattle.mip_provenance.specs.Reached.{is_heard}
-use Rattle.mip_provenance.specs.Names.{Naming, is_agent, lives, life_at, number_of_naming, namings, is_own, is_other, is_misnamed}
+use Rattle.mip_provenance.specs.Names.{Naming, is_agent, life_at, number_of_naming, namings, is_own, is_other, is_misnamed}
 use Rattle.mip_provenance.specs.Causes.{Claim}
 use Rattle.mip_afresh_marks.specs.declared.names.Named.{Named}
-use Rattle.mip_afresh_marks.specs.declared.lives.Known.{Known}
 use Rattle.mip_afresh_marks.specs.declared.lives.Lives.{Lives}
 use Rattle.mip_afresh_marks.specs.declared.sights.Sights.{Sights}
 use Rattle.mip_afresh_marks.specs.Sighting.{sight_seen, token_numbered}
@@ -18,9 +17,6 @@ use Rattle.mip_afresh_marks.specs.Sighting.{sight_seen, token_numbered}
 -- the sights up to a place
 abbrev pub front_in : Sights → ℕ → List Sight
 front_in s place = map (sight_seen (token_numbered s.posts.items)) (take place s.seen.items)
-
-abbrev pub stranger : Known
-stranger = record { is_agent = false; life = 0 }
 
 abbrev pub known_at : Lives → ℕ → Known
 known_at l n = slice_index_or l.nodes n stranger
@@ -31,17 +27,6 @@ known_of n front = record { is_agent = list_any (is_agent n) front; life = life_
 
 abbrev pub AreKnown : Lives → List Sight → Type 0
 AreKnown l front = (n : ℕ) → n < 256 → known_at l n ≡ known_of n front
-
--- what is known of a node behind one more sight
-abbrev pub known_step : ℕ → Sight → Known → Known
-known_step n s k = record { is_agent = k.is_agent || is_agent n s; life = lives n k.life s }
-
--- how a sight names a token, by what is known of nodes
-abbrev pub naming_known : (ℕ → Known) → Sight → Option Naming
-naming_known known (Sent number node (Test kind index token destination)) =
-    if (known node).is_agent then None
-    else Some (record { number = number; token = token; name = record { node = node; life = (known node).life; kind = kind; address = destination; index = index } })
-naming_known known _ = None
 
 -- how a token was named: the first packet that named it so, and whether one named it otherwise
 abbrev pub named_step : Claim → Option Naming → Named → Named

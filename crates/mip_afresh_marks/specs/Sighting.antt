@@ -7,6 +7,7 @@ use Rattle.mip_tokens.specs.Token.{authenticated}
 use Rattle.mip_entries.specs.declared.entry.Entry.{Entry}
 use Rattle.mip_entries.specs.declared.entry.Entry.TheVariants as entries
 use Rattle.mip_provenance.specs.declared.maker.Maker.TheVariants.{Node, Outsider}
+pub use Rattle.mip_provenance.specs.Entries.{number_posted}
 use Rattle.mip_provenance.specs.Lists.{first_some}
 use Rattle.mip_provenance.specs.Sights.{Sight, token_in, sight_with}
 use Rattle.mip_provenance.specs.Sights.Sight.{Sent, Injected, Heard, Handed, Agent, Made, Restarted, Quiet}
@@ -64,12 +65,6 @@ abbrev pub post_told : Entry → Option Post
 post_told (entries.Sent number node shielded packet) = Some (record { maker = Node node; carried = carried packet })
 post_told (entries.Injected number outsider link packet) = Some (record { maker = Outsider outsider; carried = carried packet })
 post_told _ = None
-
--- and its number
-abbrev pub number_posted : Entry → Option ℕ
-number_posted (entries.Sent number node shielded packet) = Some number
-number_posted (entries.Injected number outsider link packet) = Some number
-number_posted _ = None
 
 -- an entry comes next where so many packets were posted
 abbrev pub is_next : ℕ → Entry → Bool

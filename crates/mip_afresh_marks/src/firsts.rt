@@ -1,39 +1,16 @@
 //! The first packet of an update.
 
 ghost use Rattle.std.specs.Prelude.{◌≡◌, ℕ, List, Option, option_map};
-ghost use Rattle.std.specs.Str.{bytes_eq};
-ghost use Rattle.mip_tokens.specs.Token.{authenticated};
 ghost use Rattle.mip_packets.specs.Says.{key_of};
 ghost use Rattle.mip_provenance.specs.Lists.{lesser};
-ghost use Rattle.mip_provenance.specs.Firsts.{post_at, number_of, key_at, same_key, carries_key, first_update};
+ghost use Rattle.mip_provenance.specs.Firsts.{post_at, number_of, key_at, carries_key, first_update};
 ghost use Rattle.mip_afresh_marks.specs.Sighting.{sight_seen, sights_in, AreNumbered};
 
 use crate::posts::{key, maker};
 use crate::sight::Sight;
 use crate::sights::Sights;
 use mip_packets::UpdateIdentity;
-use mip_provenance::Maker;
-use mip_tokens::covered;
-
-/// An authenticator covers the same of two messages.
-#[tactic(auto, using(mip_provenance::proofs::Covered::covered_same))]
-fn same_message(a: &[u8], b: &[u8]) -> bool
-    ensures { result ≡ bytes_eq (authenticated a.now) (authenticated b.now) }
-{
-    let (front, back) = covered(a);
-    let (other_front, other_back) = covered(b);
-    front == other_front && back == other_back
-}
-
-/// Whether two updates are the same.
-fn same_key(a: &UpdateIdentity, b: &UpdateIdentity) -> bool
-    ensures { result ≡ same_key (key_of a.now) (key_of b.now) }
-{
-    a.home == b.home
-        && a.careof == b.careof
-        && a.authenticator == b.authenticator
-        && same_message(a.body, b.body)
-}
+use mip_provenance::{Maker, same_key};
 
 /// The number of the packet that a sight posts.
 fn number_of(sight: &Sight) -> Option<u64>

@@ -3,16 +3,8 @@ ghost use Rattle.mip_afresh_marks.specs.Sighting.{sight_seen};
 ghost use Rattle.mip_afresh_marks.specs.Searches.{stranger, known_at, known_step};
 
 use crate::sight::Sight;
+use mip_provenance::Known;
 use mip_words::NodeId;
-
-/// What is known of a node in front of a sight.
-#[derive(Clone, Copy)]
-pub struct Known {
-    /// The node has registered a home.
-    pub is_agent: bool,
-    /// How often it was restarted.
-    pub life: usize,
-}
 
 /// What is known of each node, by its number.
 #[derive(Clone, Copy)]

@@ -2,24 +2,15 @@
 
 ghost use Rattle.std.specs.Prelude.{◌≡◌, ◌∷◌, ◌++◌, [], List, length, true, OnOk};
 ghost use Rattle.mip_entries.specs.declared.entry.Entry.{Entry};
-ghost use Rattle.mip_afresh_marks.specs.Sighting.{is_next, number_posted, StandFor};
+ghost use Rattle.mip_afresh_marks.specs.Sighting.{is_next, StandFor};
 
 use crate::post::Post;
 use crate::sight::Sight;
 use crate::sights::Sights;
 use mip_entries::Entry;
+use mip_provenance::number_posted;
 use mip_words::Memory;
 use std::alloc::Global;
-
-/// The number of the packet that an entry posts.
-fn number_posted(entry: &Entry) -> Option<u64>
-    ensures { result ≡ number_posted entry.now }
-{
-    match entry {
-        Entry::Sent { number, .. } | Entry::Injected { number, .. } => Some(*number),
-        _ => None,
-    }
-}
 
 impl Sights {
     /// Nothing has happened.

@@ -1,6 +1,5 @@
-ghost use Rattle.std.specs.Prelude.{◌≡◌, ℕ, List, Option, None, IfOk, option_map};
+ghost use Rattle.std.specs.Prelude.{◌≡◌, ℕ, List, Option, None, IfOk};
 ghost use Rattle.mip_provenance.specs.Sights.{sight_with};
-ghost use Rattle.mip_provenance.specs.Sights.Sight.{Made};
 ghost use Rattle.mip_afresh_marks.specs.Sighting.{number_posted, sight_seen};
 
 use crate::said::Said;
@@ -85,18 +84,6 @@ impl Sight {
     }
 }
 
-/// The update that a mobile made from these tokens, as a sight.
-fn made(node: NodeId, number: u64, home: Token, careof: Option<Token>) -> Sight
-    ensures { (token : ℕ → Option (List ℕ)) → sight_seen token result ≡ Made node.0 number home.0 (option_map (λ t. t.0) careof) }
-{
-    Sight::Made {
-        node,
-        number,
-        home,
-        careof,
-    }
-}
-
 /// An entry that posts no packet, as a sight.
 fn unposted(entry: &Entry) -> Sight
     requires { number_posted entry.now ≡ None }
@@ -118,7 +105,12 @@ fn unposted(entry: &Entry) -> Sight
             home,
             careof,
             ..
-        } => made(*node, *number, *home, *careof),
+        } => Sight::Made {
+            node: *node,
+            number: *number,
+            home: *home,
+            careof: *careof,
+        },
         Entry::Restarted { node } => Sight::Restarted(*node),
         _ => Sight::Quiet,
     }

@@ -1,4 +1,4 @@
--- What a contract sees of a list, and what is true of every one.
+-- What a contract sees of a list, and what is true of the rows of every one.
 use Rattle.std.specs.Prelude.{ℕ, ◌≤◌, List, length}
 use Rattle.mip_bulist.specs.declared.row.Row.{Row}
 use Rattle.mip_bulist.specs.declared.timer.Timer.{Timer}
@@ -10,7 +10,7 @@ pub record ListSeen : Type 0 where
   pub timers : List Timer
 
 -- at most sixteen rows, of different peers, with room for all that there can be
-pub record IsListSound (rows : List Row) (row_room : ℕ) : Type 0 where
+pub record AreSound (rows : List Row) (row_room : ℕ) : Type 0 where
   pub few : length rows ≤ 16
   pub peers : AreOfDifferentPeers rows
-  pub rows_room : 16 ≤ row_room
+  pub room : 16 ≤ row_room

@@ -4,8 +4,7 @@ ghost use Rattle.mip_bulist.specs.Rows.{AreOfDifferentPeers, given_row, with_row
 
 use crate::any::Any;
 use crate::list_full::ListFull;
-use crate::row::Row;
-use crate::rows;
+use crate::rows::Rows;
 use crate::timers::Timers;
 use crate::work::Work;
 use mip_words::{Address, Memory, Moment};
@@ -16,19 +15,16 @@ use std::marker::Model;
 /// (RFC 6275 sections 4.5 and 11.1). Only `new` takes memory.
 #[derive(Drop)]
 pub struct List {
-    rows: Vec<Row>,
+    rows: Rows,
     timers: Timers,
 }
 
 impl Model for List {
-    ghost use Rattle.std.specs.Prelude.{vec_capacity};
-    ghost use Rattle.mip_bulist.specs.Lists.{ListSeen, IsListSound};
+    ghost use Rattle.mip_bulist.specs.Lists.{ListSeen};
 
     ghost Value = { ListSeen };
 
-    ghost view = { λ l. record { rows = l.rows.items; timers = l.timers } };
-
-    ghost invariant = { λ l. IsListSound l.rows.items (vec_capacity l.rows) };
+    ghost view = { λ l. record { rows = l.rows; timers = l.timers } };
 }
 
 impl List {
@@ -37,7 +33,7 @@ impl List {
         ensures { IfOk result (λ l. l ≡ record { rows = []; timers = [] }) }
     {
         Ok(List {
-            rows: Vec::with_capacity(alloc, 16)?,
+            rows: Rows::new(alloc)?,
             timers: Timers::new(alloc)?,
         })
     }
@@ -47,7 +43,7 @@ impl List {
         ensures given { result ≡ given_row peer self.old.rows }
         ensures list { self.new ≡ record self.old { rows = with_row peer self.old.rows } }
     {
-        rows::give(&mut self.rows, peer)
+        self.rows.give(peer)
     }
 
     /// The row of a peer. `None` exactly where it has none.
@@ -55,21 +51,21 @@ impl List {
         ensures row { result ≡ row_place peer self.now.rows }
         ensures within { IfSome result (λ at. at < 16) }
     {
-        rows::find_row(&self.rows, peer)
+        self.rows.find(peer)
     }
 
     /// The trial of a row. `None` exactly where the row is not made or its trial is out.
     pub fn trial(&self, row: u8) -> Option<&Any>
         ensures { option_copied result ≡ lifted row self.now.rows }
     {
-        rows::trial_at(&self.rows, row as usize)
+        self.rows.trial(row as usize)
     }
 
     /// Gives up every trial, and stops every timer.
     pub fn rest_all(&mut self)
         ensures { self.new ≡ record { rows = all_rested self.old.rows; timers = [] } }
     {
-        rows::rest_all(&mut self.rows);
+        self.rows.rest_all();
         self.timers.clear();
     }
 
@@ -87,7 +83,7 @@ impl List {
         ensures peer { result ≡ peer_at row self.now.rows }
         ensures within { IfSome result (λ _. row < 16) }
     {
-        rows::peer_at(&self.rows, row as usize)
+        self.rows.peer(row as usize)
     }
 
     /// Takes a row's trial out. `None` exactly where the row is not made or its trial is out.
@@ -95,7 +91,7 @@ impl List {
         ensures trial { result ≡ lifted row self.old.rows }
         ensures list { self.new ≡ record self.old { rows = with_trial row None self.old.rows } }
     {
-        rows::lift(&mut self.rows, row as usize)
+        self.rows.lift(row as usize)
     }
 
     /// Puts a trial back. It is handed back exactly where the row is not made, holds a trial or has
@@ -104,7 +100,7 @@ impl List {
         ensures answer { result ≡ laid row trial self.old.rows }
         ensures list { self.new ≡ record self.old { rows = rows_laid row trial self.old.rows } }
     {
-        rows::lay(&mut self.rows, row as usize, trial)
+        self.rows.lay(row as usize, trial)
     }
 
     /// Sets the timer of this work, or sets it anew.

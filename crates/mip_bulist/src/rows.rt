@@ -1,16 +1,113 @@
 //! Rows in the order in which they were made.
 
-ghost use Rattle.std.specs.Prelude.{◌≡◌, ◌≤◌, ◌<◌, ◌++◌, ◌∷◌, [], length, vec_capacity, IfSome, IsTrue, option_copied};
+ghost use Rattle.std.specs.Prelude.{◌≡◌, ◌≤◌, ◌<◌, ◌++◌, ◌∷◌, [], length, vec_capacity, IfOk, IfSome, IsTrue, option_copied};
 ghost use Rattle.mip_bulist.specs.Rows.{AreOfDifferentPeers, new_row, row_place, takes_at, peer_at, given_row, with_row, lifted, with_trial, laid, rows_laid, all_rested};
 
 use crate::any::Any;
 use crate::list_full::ListFull;
 use crate::row::Row;
 use crate::trial::Trial;
-use mip_words::Address;
+use mip_words::{Address, Memory};
+use std::alloc::Global;
+use std::marker::Model;
 
 /// How many peers have rows at most.
 const ROWS: usize = 16;
+
+/// Rows of different peers, 16 at most. Only `new` takes memory.
+#[derive(Drop)]
+pub struct Rows {
+    list: Vec<Row>,
+}
+
+impl Model for Rows {
+    ghost use Rattle.std.specs.Prelude.{List, vec_capacity};
+    ghost use Rattle.mip_bulist.specs.Lists.{AreSound};
+    ghost use Rattle.mip_bulist.specs.declared.row.Row.{Row as OneRow};
+
+    ghost Value = { List OneRow };
+
+    ghost view = { λ r. r.list.items };
+
+    ghost invariant = { λ r. AreSound r.list.items (vec_capacity r.list) };
+}
+
+impl Rows {
+    /// No row, with room for all that there can be.
+    pub fn new(alloc: Global) -> Result<Rows, Memory>
+        ensures { IfOk result (λ r. r ≡ []) }
+    {
+        Ok(Rows {
+            list: Vec::with_capacity(alloc, ROWS)?,
+        })
+    }
+
+    /// The row of a peer.
+    pub fn find(&self, peer: Address) -> Option<u8>
+        ensures value { result ≡ row_place peer self.now }
+        ensures within { IfSome result (λ at. at < 16) }
+    {
+        match find(&self.list, peer) {
+            Some(at) => Some(at as u8),
+            None => None,
+        }
+    }
+
+    /// The trial of a row.
+    pub fn trial(&self, row: usize) -> Option<&Any>
+        ensures { option_copied result ≡ lifted row self.now }
+    {
+        self.list.get(row)?.trial.as_ref()
+    }
+
+    /// The peer of a row that is made.
+    pub fn peer(&self, row: usize) -> Option<Address>
+        ensures different { AreOfDifferentPeers self.now }
+        ensures peer { result ≡ peer_at row self.now }
+        ensures within { IfSome result (λ _. row < 16) }
+    {
+        let row = self.list.get(row)?;
+        Some(row.peer)
+    }
+
+    /// Every trial is given up.
+    pub fn rest_all(&mut self)
+        ensures { self.new ≡ all_rested self.old }
+    {
+        rest_each(&mut self.list)
+    }
+
+    /// Every row is forgotten.
+    pub fn clear(&mut self)
+        ensures { self.new ≡ [] }
+    {
+        self.list.clear();
+    }
+
+    /// The row of a peer, made where new. It takes no memory.
+    pub fn give(&mut self, peer: Address) -> Result<u8, ListFull>
+        ensures given { result ≡ given_row peer self.old }
+        ensures rows { self.new ≡ with_row peer self.old }
+    {
+        find_or_make(&mut self.list, peer)
+    }
+
+    /// Takes a row's trial out.
+    pub fn lift(&mut self, row: usize) -> Option<Any>
+        ensures trial { result ≡ lifted row self.old }
+        ensures rows { self.new ≡ with_trial row None self.old }
+    {
+        take_out(&mut self.list, row)
+    }
+
+    /// Puts a trial back.
+    pub fn lay(&mut self, row: usize, trial: Any) -> Result<(), Any>
+        ensures answer { result ≡ laid row trial self.old }
+        ensures rows { self.new ≡ rows_laid row trial self.old }
+    {
+        put_in(&mut self.list, row, trial)
+    }
+}
 
 /// The row of a peer.
 fn find(rows: &[Row], peer: Address) -> Option<usize>
@@ -18,37 +115,6 @@ fn find(rows: &[Row], peer: Address) -> Option<usize>
     ensures within { IfSome result (λ at. at < length rows.now) }
 {
     rows.iter().position(|row| row.peer.0 == peer.0)
-}
-
-/// The row of a peer, as a number.
-pub fn find_row(rows: &[Row], peer: Address) -> Option<u8>
-    requires { length rows.now ≤ 16 }
-    ensures value { result ≡ row_place peer rows.now }
-    ensures within { IfSome result (λ at. at < 16) }
-{
-    match find(rows, peer) {
-        Some(at) => Some(at as u8),
-        None => None,
-    }
-}
-
-/// The trial of a row.
-pub fn trial_at(rows: &[Row], row: usize) -> Option<&Any>
-    ensures { option_copied result ≡ lifted row rows.now }
-{
-    rows.get(row)?.trial.as_ref()
-}
-
-/// Every trial is given up.
-pub fn rest_all(rows: &mut Vec<Row>)
-    requires few { length rows.old.items ≤ 16 }
-    requires peers { AreOfDifferentPeers rows.old.items }
-    ensures rows { rows.new.items ≡ all_rested rows.old.items }
-    ensures few { length rows.new.items ≤ 16 }
-    ensures peers { AreOfDifferentPeers rows.new.items }
-    ensures room { vec_capacity rows.new ≡ vec_capacity rows.old }
-{
-    rest_each(rows)
 }
 
 fn rest_each(rows: &mut [Row])
@@ -60,19 +126,6 @@ fn rest_each(rows: &mut [Row])
 }
 
 /// The row of a peer, made where new. It takes no memory.
-pub fn give(rows: &mut Vec<Row>, peer: Address) -> Result<u8, ListFull>
-    requires few { length rows.old.items ≤ 16 }
-    requires peers { AreOfDifferentPeers rows.old.items }
-    requires room { 16 ≤ vec_capacity rows.old }
-    ensures given { result ≡ given_row peer rows.old.items }
-    ensures rows { rows.new.items ≡ with_row peer rows.old.items }
-    ensures few { length rows.new.items ≤ 16 }
-    ensures peers { AreOfDifferentPeers rows.new.items }
-    ensures room { 16 ≤ vec_capacity rows.new }
-{
-    find_or_make(rows, peer)
-}
-
 fn find_or_make(rows: &mut Vec<Row>, peer: Address) -> Result<u8, ListFull>
     requires few { length rows.old.items ≤ 16 }
     requires room { 16 ≤ vec_capacity rows.old }
@@ -105,28 +158,6 @@ fn make(rows: &mut Vec<Row>, peer: Address)
     }
 }
 
-/// The peer of a row that is made.
-pub fn peer_at(rows: &[Row], row: usize) -> Option<Address>
-    ensures peer { result ≡ peer_at row rows.now }
-    ensures within { IfSome result (λ _. row < length rows.now) }
-{
-    let row = rows.get(row)?;
-    Some(row.peer)
-}
-
-/// Takes a row's trial out.
-pub fn lift(rows: &mut Vec<Row>, row: usize) -> Option<Any>
-    requires few { length rows.old.items ≤ 16 }
-    requires peers { AreOfDifferentPeers rows.old.items }
-    ensures trial { result ≡ lifted row rows.old.items }
-    ensures rows { rows.new.items ≡ with_trial row None rows.old.items }
-    ensures few { length rows.new.items ≤ 16 }
-    ensures peers { AreOfDifferentPeers rows.new.items }
-    ensures room { vec_capacity rows.new ≡ vec_capacity rows.old }
-{
-    take_out(rows, row)
-}
-
 fn take_out(rows: &mut [Row], row: usize) -> Option<Any>
     ensures trial { result ≡ lifted row rows.old }
     ensures rows { rows.new ≡ with_trial row None rows.old }
@@ -136,19 +167,6 @@ fn take_out(rows: &mut [Row], row: usize) -> Option<Any>
     } else {
         None
     }
-}
-
-/// Puts a trial back.
-pub fn lay(rows: &mut Vec<Row>, row: usize, trial: Any) -> Result<(), Any>
-    requires few { length rows.old.items ≤ 16 }
-    requires peers { AreOfDifferentPeers rows.old.items }
-    ensures answer { result ≡ laid row trial rows.old.items }
-    ensures rows { rows.new.items ≡ rows_laid row trial rows.old.items }
-    ensures few { length rows.new.items ≤ 16 }
-    ensures peers { AreOfDifferentPeers rows.new.items }
-    ensures room { vec_capacity rows.new ≡ vec_capacity rows.old }
-{
-    put_in(rows, row, trial)
 }
 
 fn put_in(rows: &mut [Row], row: usize, trial: Any) -> Result<(), Any>

@@ -6,6 +6,7 @@ ghost use Rattle.mip_mobhdr.specs.Reading.{acknowledgement_of};
 ghost use Rattle.mip_mobhdr.specs.Spelling.{flag};
 
 use crate::fault::Fault;
+use crate::front::Front;
 use crate::message::Message;
 use crate::message_bytes::MessageBytes;
 use crate::option_reading::read_options;
@@ -30,18 +31,19 @@ pub fn acknowledgement(body: &[u8]) -> Result<Message<'_>, Fault>
 
 /// Appends the fields of a Binding Acknowledgement, from byte 6 on.
 pub fn put_acknowledgement(
-    out: &mut MessageBytes,
+    front: Front,
     status: u8,
     key: bool,
     sequence: u16,
     lifetime: u16,
-)
-    requires { length out.old ≤ 6 }
-    ensures ok { out.new ≡ out.old ++ (status ∷ flag 128 key ∷ (number_bytes 2 sequence ++ number_bytes 2 lifetime)) }
+) -> MessageBytes
+    ensures ok { result ≡ front.bytes ++ (status ∷ flag 128 key ∷ (number_bytes 2 sequence ++ number_bytes 2 lifetime)) }
     ensures fits { (sequence < 2 ^ 16) × (lifetime < 2 ^ 16) }
 {
+    let mut out = front.bytes;
     let flags = if key { 0x80 } else { 0 };
     out.extend(&[status, flags]);
     out.extend(&u16_bytes(sequence));
     out.extend(&u16_bytes(lifetime));
+    out
 }

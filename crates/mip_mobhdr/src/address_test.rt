@@ -5,6 +5,7 @@ ghost use Rattle.mip_mobhdr.specs.Said.{said, HasSpan};
 ghost use Rattle.mip_mobhdr.specs.Reading.{home_test_of, careof_test_of};
 
 use crate::fault::Fault;
+use crate::front::Front;
 use crate::message::Message;
 use crate::message_bytes::MessageBytes;
 use crate::option_reading::read_options;
@@ -52,12 +53,13 @@ fn token_at(body: &[u8]) -> Token
 }
 
 /// Appends the fields of a Home Test or a Care-of Test, from byte 6 on.
-pub fn put_test(out: &mut MessageBytes, index: u16, cookie: Cookie, token: Token)
-    requires { length out.old ≤ 6 }
-    ensures ok { out.new ≡ out.old ++ (number_bytes 2 index ++ (number_bytes 8 cookie.0 ++ token.0)) }
+pub fn put_test(front: Front, index: u16, cookie: Cookie, token: Token) -> MessageBytes
+    ensures ok { result ≡ front.bytes ++ (number_bytes 2 index ++ (number_bytes 8 cookie.0 ++ token.0)) }
     ensures fits { (index < 2 ^ 16) × (cookie.0 < 2 ^ 64) × (length token.0 ≡ 8) }
 {
+    let mut out = front.bytes;
     out.extend(&u16_bytes(index));
     out.extend(&u64_bytes(cookie.0));
     out.extend(&token.0);
+    out
 }

@@ -5,6 +5,7 @@ ghost use Rattle.mip_mobhdr.specs.Said.{said, HasSpan};
 ghost use Rattle.mip_mobhdr.specs.Reading.{error_of};
 
 use crate::fault::Fault;
+use crate::front::Front;
 use crate::message::Message;
 use crate::message_bytes::MessageBytes;
 use crate::option_reading::read_options;
@@ -26,11 +27,12 @@ pub fn binding_error(body: &[u8]) -> Result<Message<'_>, Fault>
 }
 
 /// Appends the fields of a Binding Error, from byte 6 on.
-pub fn put_error(out: &mut MessageBytes, status: u8, home: Address)
-    requires { length out.old ≤ 6 }
-    ensures ok { out.new ≡ out.old ++ (status ∷ 0 ∷ address_bytes home) }
+pub fn put_error(front: Front, status: u8, home: Address) -> MessageBytes
+    ensures ok { result ≡ front.bytes ++ (status ∷ 0 ∷ address_bytes home) }
     ensures fits { home.0 < 2 ^ 128 }
 {
+    let mut out = front.bytes;
     out.extend(&[status, 0]);
     out.extend(&home.bytes());
+    out
 }

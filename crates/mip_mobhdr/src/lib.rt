@@ -4,9 +4,11 @@
 
 mod acknowledgement;
 mod address_test;
+mod alignment;
 mod bad_option;
 mod binding_error;
 mod fault;
+mod front;
 mod indices;
 mod least;
 mod message;
@@ -19,6 +21,7 @@ mod padding;
 mod plain;
 mod reading;
 mod refresh;
+mod start;
 mod test_init;
 mod update;
 mod writing;

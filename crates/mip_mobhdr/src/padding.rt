@@ -3,6 +3,8 @@
 ghost use Rattle.std.specs.Prelude.{◌≡◌, ◌+◌, ◌<◌, ◌≤◌, ◌++◌, length};
 ghost use Rattle.mip_mobhdr.specs.OptionWriting.{gap, padding};
 
+use crate::alignment::Alignment;
+use crate::start::Start;
 use arrayvec::ArrayVec;
 
 /// The options of one message: with all five and the longest gaps they take 70 bytes.
@@ -34,28 +36,20 @@ pub fn pad(area: &mut Area, count: usize)
     put(area, &[0; 6][..count - 2]);
 }
 
-/// Pads to the next place of the message that is `rest` more than a multiple of `multiple`.
-/// The area begins at the place `start`.
-pub fn align(start: usize, area: &mut Area, multiple: usize, rest: usize)
-    requires start { start ≤ 24 }
-    requires multiple { 0 < multiple }
-    requires small { multiple ≤ 8 }
-    requires rest { rest < multiple }
-    requires room { length area.old.items + multiple ≤ 73 }
-    ensures aligned { area.new.items ≡ area.old.items ++ padding (gap multiple rest (start + length area.old.items)) }
-    ensures grows { length area.new.items < length area.old.items + multiple }
+/// Pads to the next place of the message that has this alignment. The area begins at the place `start`.
+pub fn align(start: Start, area: &mut Area, to: Alignment)
+    requires { length area.old.items + to.multiple ≤ 73 }
+    ensures aligned { area.new.items ≡ area.old.items ++ padding (gap to.multiple to.rest (start.place + length area.old.items)) }
+    ensures grows { length area.new.items < length area.old.items + to.multiple }
 {
-    let count = gap_at(multiple, rest, start + area.len());
+    let count = gap_at(to, start.place + area.len());
     pad(area, count);
 }
 
 #[tactic(auto, unfolding(crate::specs::OptionWriting::gap))]
-fn gap_at(multiple: usize, rest: usize, place: usize) -> usize
-    requires multiple { 0 < multiple }
-    requires small { multiple ≤ 8 }
-    requires rest { rest < multiple }
-    ensures exact { result ≡ gap multiple rest place }
-    ensures small { result < multiple }
+fn gap_at(to: Alignment, place: usize) -> usize
+    ensures exact { result ≡ gap to.multiple to.rest place }
+    ensures small { result < to.multiple }
 {
-    (multiple + rest - place % multiple) % multiple
+    (to.multiple + to.rest - place % to.multiple) % to.multiple
 }

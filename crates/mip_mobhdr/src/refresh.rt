@@ -4,6 +4,7 @@ ghost use Rattle.mip_mobhdr.specs.Said.{said, HasSpan};
 ghost use Rattle.mip_mobhdr.specs.Reading.{refresh_of};
 
 use crate::fault::Fault;
+use crate::front::Front;
 use crate::message::Message;
 use crate::message_bytes::MessageBytes;
 use crate::option_reading::read_options;
@@ -20,9 +21,10 @@ pub fn refresh(body: &[u8]) -> Result<Message<'_>, Fault>
 }
 
 /// Appends the fields of a Binding Refresh Request, from byte 6 on.
-pub fn put_refresh(out: &mut MessageBytes)
-    requires { length out.old ≤ 6 }
-    ensures { out.new ≡ out.old ++ (0 ∷ 0 ∷ []) }
+pub fn put_refresh(front: Front) -> MessageBytes
+    ensures { result ≡ front.bytes ++ (0 ∷ 0 ∷ []) }
 {
+    let mut out = front.bytes;
     out.extend(&[0, 0]);
+    out
 }

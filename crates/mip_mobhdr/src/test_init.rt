@@ -5,6 +5,7 @@ ghost use Rattle.mip_mobhdr.specs.Said.{said, HasSpan};
 ghost use Rattle.mip_mobhdr.specs.Reading.{home_init_of, careof_init_of};
 
 use crate::fault::Fault;
+use crate::front::Front;
 use crate::message::Message;
 use crate::message_bytes::MessageBytes;
 use crate::option_reading::read_options;
@@ -35,11 +36,12 @@ pub fn careof_init(body: &[u8]) -> Result<Message<'_>, Fault>
 }
 
 /// Appends the fields of a Home Test Init or a Care-of Test Init, from byte 6 on.
-pub fn put_init(out: &mut MessageBytes, cookie: Cookie)
-    requires { length out.old ≤ 6 }
-    ensures ok { out.new ≡ out.old ++ (0 ∷ 0 ∷ number_bytes 8 cookie.0) }
+pub fn put_init(front: Front, cookie: Cookie) -> MessageBytes
+    ensures ok { result ≡ front.bytes ++ (0 ∷ 0 ∷ number_bytes 8 cookie.0) }
     ensures fits { cookie.0 < 2 ^ 64 }
 {
+    let mut out = front.bytes;
     out.extend(&[0, 0]);
     out.extend(&u64_bytes(cookie.0));
+    out
 }

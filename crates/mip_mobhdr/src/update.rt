@@ -6,6 +6,7 @@ ghost use Rattle.mip_mobhdr.specs.Reading.{update_of};
 ghost use Rattle.mip_mobhdr.specs.Spelling.{flag};
 
 use crate::fault::Fault;
+use crate::front::Front;
 use crate::message::Message;
 use crate::message_bytes::MessageBytes;
 use crate::option_reading::read_options;
@@ -32,14 +33,15 @@ pub fn read_update(body: &[u8]) -> Result<Message<'_>, Fault>
 }
 
 /// Appends the fields of a Binding Update, from byte 6 on.
-pub fn put_update(out: &mut MessageBytes, sequence: u16, flags: u8, lifetime: u16)
-    requires { length out.old ≤ 6 }
-    ensures ok { out.new ≡ out.old ++ (number_bytes 2 sequence ++ (flags ∷ 0 ∷ number_bytes 2 lifetime)) }
+pub fn put_update(front: Front, sequence: u16, flags: u8, lifetime: u16) -> MessageBytes
+    ensures ok { result ≡ front.bytes ++ (number_bytes 2 sequence ++ (flags ∷ 0 ∷ number_bytes 2 lifetime)) }
     ensures fits { (sequence < 2 ^ 16) × (lifetime < 2 ^ 16) }
 {
+    let mut out = front.bytes;
     out.extend(&u16_bytes(sequence));
     out.extend(&[flags, 0]);
     out.extend(&u16_bytes(lifetime));
+    out
 }
 
 /// The flags of a Binding Update in their byte.

@@ -11,6 +11,7 @@ ghost use Rattle.mip_mobhdr.specs.SpellingLaws.{front_bytes, HasWidths, WritesOp
 use crate::acknowledgement::put_acknowledgement;
 use crate::address_test::put_test;
 use crate::binding_error::put_error;
+use crate::front::Front;
 use crate::message_bytes::MessageBytes;
 use crate::option_set::OptionSet;
 use crate::option_writing::write_options;
@@ -55,7 +56,6 @@ fn draft_of(message: &Plain) -> MessageBytes
     requires { HasNumber (said_plain message.now) }
     ensures draft { result ≡ unsummed (said_plain message.now) }
     ensures long { 8 ≤ length result }
-    ensures short { length result ≤ 96 }
     ensures fits { HasWidths (said_plain message.now) }
     ensures options { WritesOptions (said_plain message.now) }
 {
@@ -72,21 +72,19 @@ fn front_of(message: &Plain) -> MessageBytes
     ensures short { length result ≤ 24 }
     ensures fits { HasWidths (said_plain message.now) }
 {
-    let mut out = MessageBytes::new();
-    out.extend(&[59, 0, kind_of(message), 0, 0, 0]);
-    put_fields(&mut out, message);
-    out
+    put_fields(Front::new(kind_of(message)), message)
 }
 
 /// Appends the fields of the message, from byte 6 on.
-fn put_fields(out: &mut MessageBytes, message: &Plain)
-    requires { length out.old ≤ 6 }
-    ensures ok { out.new ≡ out.old ++ field_bytes (said_plain message.now) }
+fn put_fields(front: Front, message: &Plain) -> MessageBytes
+    ensures ok { result ≡ front.bytes ++ field_bytes (said_plain message.now) }
     ensures fits { HasWidths (said_plain message.now) }
 {
     match message {
-        Plain::Refresh { .. } => put_refresh(out),
-        Plain::HomeInit { cookie, .. } | Plain::CareofInit { cookie, .. } => put_init(out, *cookie),
+        Plain::Refresh { .. } => put_refresh(front),
+        Plain::HomeInit { cookie, .. } | Plain::CareofInit { cookie, .. } => put_init(
+            front, *cookie,
+        ),
         Plain::HomeTest {
             index,
             cookie,
@@ -98,7 +96,7 @@ fn put_fields(out: &mut MessageBytes, message: &Plain)
             cookie,
             token,
             ..
-        } => put_test(out, *index, *cookie, *token),
+        } => put_test(front, *index, *cookie, *token),
         Plain::Update {
             sequence,
             ack,
@@ -108,7 +106,7 @@ fn put_fields(out: &mut MessageBytes, message: &Plain)
             lifetime,
             ..
         } => put_update(
-            out,
+            front,
             *sequence,
             update_flags(*ack, *home, *local, *key),
             *lifetime,
@@ -119,8 +117,8 @@ fn put_fields(out: &mut MessageBytes, message: &Plain)
             sequence,
             lifetime,
             ..
-        } => put_acknowledgement(out, *status, *key, *sequence, *lifetime),
-        Plain::Error { status, home, .. } => put_error(out, *status, *home),
+        } => put_acknowledgement(front, *status, *key, *sequence, *lifetime),
+        Plain::Error { status, home, .. } => put_error(front, *status, *home),
     }
 }
 
@@ -157,8 +155,7 @@ fn options_of(message: &Plain) -> &OptionSet
 
 /// Puts the Header Len in its place.
 fn put_size(message: &mut MessageBytes)
-    requires long { 8 ≤ length message.old }
-    requires short { length message.old ≤ 96 }
+    requires { 8 ≤ length message.old }
     ensures { message.new ≡ slice_set message.old 1 (length message.old / 8 - 1) }
 {
     let size = (message.len() / 8 - 1) as u8;
@@ -167,8 +164,7 @@ fn put_size(message: &mut MessageBytes)
 
 /// Puts the checksum in its place.
 fn put_sum(message: &mut MessageBytes, source: Address, destination: Address)
-    requires long { 8 ≤ length message.old }
-    requires short { length message.old ≤ 96 }
+    requires { 8 ≤ length message.old }
     ensures { message.new ≡ with_number_at 4 (checksum_of source destination 135 message.old 4) message.old }
 {
     let sum = checksum(source, destination, 135, message.as_slice(), 4);

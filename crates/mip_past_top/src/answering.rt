@@ -70,12 +70,7 @@ fn named(alloc: Global, line: u32, schedule: &Schedule, name: Name) -> Result<Re
     ensures conclusive { IfOk result (λ reply. IsConclusive reply.status) }
     ensures statuses { IfOk result (λ reply. IsStatus reply.status × (reply.status ≢ 1)) }
 {
-    few(schedule);
-    match node(
-        Sort::Node,
-        schedule.declarations.as_slice(),
-        name.as_slice(),
-    ) {
+    match node(Sort::Node, &schedule.few_declarations(), name.as_slice()) {
         Ok(node) => known_then(alloc, line, schedule, Some(node)),
         Err(why) => bad(alloc, 0, why),
     }

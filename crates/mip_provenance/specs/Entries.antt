@@ -9,6 +9,12 @@ use Rattle.mip_provenance.specs.declared.accepted_update.AcceptedUpdate.{Accepte
 use Rattle.mip_provenance.specs.declared.mark.Mark.{Mark}
 use Rattle.mip_provenance.specs.declared.mark.Mark.TheVariants as marks
 
+-- the number of the packet that an entry posts
+abbrev pub number_posted : Entry → Option ℕ
+number_posted (entries.Sent number node shielded packet) = Some number
+number_posted (entries.Injected number outsider link packet) = Some number
+number_posted _ = None
+
 abbrev pub packet_told : ℕ → Entry → Option (List ℕ)
 packet_told k (entries.Sent number node shielded packet) = if number == k then Some packet else None
 packet_told k (entries.Injected number outsider link packet) = if number == k then Some packet else None

@@ -5,6 +5,7 @@ pub mod Sights
 pub mod Reached
 pub mod ReachedLaws
 pub mod Names
+pub mod KnownNodes
 pub mod Firsts
 pub mod Pairs
 pub mod Causes

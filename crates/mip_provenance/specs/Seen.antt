@@ -2,6 +2,7 @@
 use Rattle.std.specs.Prelude.{ℕ, List, map, take, Bool, option_map}
 use Rattle.mip_packets.specs.Says.{carried, kind_of, key_of}
 use Rattle.mip_entries.specs.declared.entry.Entry.{Entry}
+use Rattle.mip_provenance.specs.declared.front.Front.{Front}
 use Rattle.mip_provenance.specs.declared.post.Post.{Post as FoundPost}
 use Rattle.mip_provenance.specs.declared.name.Name.{Name as FoundName}
 use Rattle.mip_provenance.specs.declared.naming.Naming.{Naming as FoundNaming}
@@ -17,6 +18,9 @@ use Rattle.mip_provenance.specs.Causes.{Claim}
 -- the sights of a history up to a place
 abbrev pub front_at : List Entry → ℕ → List Sight
 front_at past place = map (sight past) (take place past)
+
+abbrev pub front_of : Front → List Sight
+front_of f = front_at f.history.now f.place
 
 abbrev pub post_of : FoundPost → Post
 post_of p = record { maker = p.maker; carried = carried p.packet.now }

@@ -1,26 +1,26 @@
 //! What makes an update forged.
 
-ghost use Rattle.std.specs.Prelude.{◌≡◌, ◌≤◌, length, option_map, false};
+ghost use Rattle.std.specs.Prelude.{◌≡◌, option_map, false};
 ghost use Rattle.std.specs.Option.{option_map_or};
 ghost use Rattle.std.specs.Str.{bytes_eq};
 ghost use Rattle.mip_packets.specs.Says.{carried};
 ghost use Rattle.mip_provenance.specs.Sights.{sight, sights, token_in};
 ghost use Rattle.mip_provenance.specs.Causes.{new_to, early, is_early, is_used_early, is_named_otherwise};
-ghost use Rattle.mip_provenance.specs.Seen.{front_at, claim_of};
+ghost use Rattle.mip_provenance.specs.Seen.{front_of, claim_of};
 
 use crate::claim::Claim;
+use crate::front::Front;
 use crate::{names, posts, reached};
 use mip_entries::Entry;
 use mip_words::Token;
 
 /// The token of a test that an entry behind a place injects, where it had not come to the outsider.
-fn early(history: &[Entry], place: usize, outsider: u8, packet: &[u8]) -> Option<Token>
-    requires { place ≤ length history.now }
-    ensures { option_map (λ t. t.0) result ≡ new_to (front_at history.now place) outsider (token_in (carried packet.now)) }
+fn early(front: Front<'_>, outsider: u8, packet: &[u8]) -> Option<Token>
+    ensures { option_map (λ t. t.0) result ≡ new_to (front_of front.entry) outsider (token_in (carried packet.now)) }
 {
     match posts::token_said(packet) {
         Some(token) => {
-            if reached::has_heard(history, place, outsider, token) {
+            if reached::has_heard(front, outsider, token) {
                 None
             } else {
                 Some(token)
@@ -31,16 +31,15 @@ fn early(history: &[Entry], place: usize, outsider: u8, packet: &[u8]) -> Option
 }
 
 /// An entry behind a place injects a test with the token, which had not come to the outsider.
-fn is_early_at(history: &[Entry], place: usize, entry: &Entry, token: Token) -> bool
-    requires { place ≤ length history.now }
-    ensures { result ≡ option_map_or (bytes_eq token.0) (early (front_at history.now place) (sight history.now entry.now)) false }
+fn is_early_at(front: Front<'_>, entry: &Entry, token: Token) -> bool
+    ensures { result ≡ option_map_or (bytes_eq token.0) (early (front_of front.entry) (sight front.entry.history.now entry.now)) false }
 {
     match entry {
         Entry::Injected {
             outsider,
             packet,
             ..
-        } => match early(history, place, *outsider, packet.as_slice()) {
+        } => match early(front, *outsider, packet.as_slice()) {
             Some(t) => token == t,
             None => false,
         },
@@ -54,7 +53,7 @@ fn is_early(history: &[Entry], token: Token) -> bool
     ensures { result ≡ is_early (sights history.now) token.0 }
 {
     for (place, entry) in history.iter().enumerate() {
-        if is_early_at(history, place, entry, token) {
+        if is_early_at(Front { history, place }, entry, token) {
             return true;
         }
     }

@@ -5,6 +5,7 @@ ghost use Rattle.std.specs.Str.{bytes_eq};
 ghost use Rattle.mip_tokens.specs.Token.{authenticated};
 ghost use Rattle.mip_packets.specs.Says.{key_of};
 ghost use Rattle.mip_entries.specs.declared.entry.Entry.{Entry};
+ghost use Rattle.mip_provenance.specs.Entries.{number_posted};
 ghost use Rattle.mip_provenance.specs.Lists.{lesser};
 ghost use Rattle.mip_provenance.specs.Sights.{sight, sights};
 ghost use Rattle.mip_provenance.specs.Firsts.{number_of, same_key, carries_key, first_update};
@@ -25,7 +26,7 @@ fn same_message(a: &[u8], b: &[u8]) -> bool
 }
 
 /// Whether two updates are the same.
-fn same_key(a: &UpdateIdentity, b: &UpdateIdentity) -> bool
+pub fn same_key(a: &UpdateIdentity, b: &UpdateIdentity) -> bool
     ensures { result ≡ same_key (key_of a.now) (key_of b.now) }
 {
     a.home == b.home
@@ -45,8 +46,9 @@ fn carries(history: &[Entry], number: u64, key: &UpdateIdentity) -> bool
 }
 
 /// The number of the packet that an entry posts.
-fn number_of(entry: &Entry) -> Option<u64>
-    ensures { (past : List Entry) → result ≡ number_of (sight past entry.now) }
+pub fn number_posted(entry: &Entry) -> Option<u64>
+    ensures entry { result ≡ number_posted entry.now }
+    ensures sight { (past : List Entry) → result ≡ number_of (sight past entry.now) }
 {
     match entry {
         Entry::Sent { number, .. } | Entry::Injected { number, .. } => Some(*number),
@@ -78,7 +80,7 @@ pub fn first_update(history: &[Entry], key: &UpdateIdentity) -> Option<u64>
 {
     let mut best = None;
     for entry in history {
-        match number_of(entry) {
+        match number_posted(entry) {
             Some(number) => best = lesser(history, key, best, number),
             None => (),
         }

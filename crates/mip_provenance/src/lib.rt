@@ -6,6 +6,8 @@ mod accepted_update;
 mod causes;
 mod claim;
 mod firsts;
+mod front;
+mod known;
 mod laws;
 mod maker;
 mod mark;
@@ -22,6 +24,8 @@ mod whole_history;
 
 pub use accepted_update::AcceptedUpdate;
 pub use claim::Claim;
+pub use firsts::{number_posted, same_key};
+pub use known::Known;
 pub use laws::{forged_marks_have_their_cause, unforged_has_its_origin};
 pub use maker::Maker;
 pub use mark::Mark;

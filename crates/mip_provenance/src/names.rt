@@ -1,6 +1,6 @@
 //! Who names a token, and how.
 
-ghost use Rattle.std.specs.Prelude.{◌≡◌, ℕ, List, ◌≤◌, ◌<◌, suc, if◌then◌else◌, length, option_map, false};
+ghost use Rattle.std.specs.Prelude.{◌≡◌, ℕ, List, ◌<◌, suc, if◌then◌else◌, option_map, false};
 ghost use Rattle.std.specs.List.{list_any};
 ghost use Rattle.std.specs.Option.{option_map_or, option_and_then};
 ghost use Rattle.mip_provenance.specs.Lists.{if_passes};
@@ -9,9 +9,10 @@ ghost use Rattle.mip_provenance.specs.Sights.{sight, sights};
 ghost use Rattle.mip_packets.specs.Says.{carried};
 ghost use Rattle.mip_provenance.specs.Sights.Sight.{Sent};
 ghost use Rattle.mip_provenance.specs.Names.{is_agent, number_of_naming, lives, life_at, naming, is_own, is_other, is_misnamed, first_sent};
-ghost use Rattle.mip_provenance.specs.Seen.{front_at, name_of, naming_of};
+ghost use Rattle.mip_provenance.specs.Seen.{front_of, name_of, naming_of};
 
 use crate::claim::Claim;
+use crate::front::Front;
 use crate::name::Name;
 use crate::naming::Naming;
 use mip_entries::Entry;
@@ -29,11 +30,10 @@ fn registers(entry: &Entry, node: NodeId) -> bool
 }
 
 /// A node has registered a home before a place.
-fn is_agent(history: &[Entry], place: usize, node: NodeId) -> bool
-    requires { place ≤ length history.now }
-    ensures { result ≡ list_any (is_agent node.0) (front_at history.now place) }
+fn is_agent(front: Front<'_>, node: NodeId) -> bool
+    ensures { result ≡ list_any (is_agent node.0) (front_of front.entry) }
 {
-    for entry in &history[..place] {
+    for entry in &front.history[..front.place] {
         if registers(entry, node) {
             return true;
         }
@@ -52,12 +52,11 @@ fn restarts(entry: &Entry, node: NodeId) -> bool
 }
 
 /// The life of a node at a place.
-fn life(history: &[Entry], place: usize, node: NodeId) -> usize
-    requires { place ≤ length history.now }
-    ensures { result ≡ life_at node.0 (front_at history.now place) }
+fn life(front: Front<'_>, node: NodeId) -> usize
+    ensures { result ≡ life_at node.0 (front_of front.entry) }
 {
     let mut count = 0;
-    for entry in &history[..place] {
+    for entry in &front.history[..front.place] {
         if restarts(entry, node) {
             count += 1;
         }
@@ -66,15 +65,8 @@ fn life(history: &[Entry], place: usize, node: NodeId) -> usize
 }
 
 /// How a packet that a node sends behind a place names a token.
-fn named(
-    history: &[Entry],
-    place: usize,
-    number: u64,
-    node: NodeId,
-    packet: &[u8],
-) -> Option<Naming>
-    requires { place ≤ length history.now }
-    ensures { option_map naming_of result ≡ naming (front_at history.now place) (Sent number node.0 (carried packet.now)) }
+fn named(front: Front<'_>, number: u64, node: NodeId, packet: &[u8]) -> Option<Naming>
+    ensures { option_map naming_of result ≡ naming (front_of front.entry) (Sent number node.0 (carried packet.now)) }
 {
     match carried_in(packet) {
         Carried::Test {
@@ -83,10 +75,10 @@ fn named(
             token,
             destination,
         } => {
-            if is_agent(history, place, node) {
+            if is_agent(front, node) {
                 return None;
             }
-            let life = life(history, place, node);
+            let life = life(front, node);
             Some(Naming {
                 number,
                 token,
@@ -104,9 +96,8 @@ fn named(
 }
 
 /// How an entry behind a place names a token.
-fn naming(history: &[Entry], place: usize, entry: &Entry) -> Option<Naming>
-    requires { place ≤ length history.now }
-    ensures { option_map naming_of result ≡ naming (front_at history.now place) (sight history.now entry.now) }
+fn naming(front: Front<'_>, entry: &Entry) -> Option<Naming>
+    ensures { option_map naming_of result ≡ naming (front_of front.entry) (sight front.entry.history.now entry.now) }
 {
     match entry {
         Entry::Sent {
@@ -114,18 +105,17 @@ fn naming(history: &[Entry], place: usize, entry: &Entry) -> Option<Naming>
             node,
             packet,
             ..
-        } => named(history, place, *number, *node, packet.as_slice()),
+        } => named(front, *number, *node, packet.as_slice()),
         _ => None,
     }
 }
 
 /// An entry behind a place names the token otherwise.
-fn is_other_at(history: &[Entry], place: usize, entry: &Entry, claim: &Claim) -> bool
-    requires { place ≤ length history.now }
+fn is_other_at(front: Front<'_>, entry: &Entry, claim: &Claim) -> bool
     ensures { result ≡
-        option_map_or (is_other claim.now.token.0 (name_of claim.now.name)) (naming (front_at history.now place) (sight history.now entry.now)) false }
+        option_map_or (is_other claim.now.token.0 (name_of claim.now.name)) (naming (front_of front.entry) (sight front.entry.history.now entry.now)) false }
 {
-    match naming(history, place, entry) {
+    match naming(front, entry) {
         Some(naming) => claim.is_other(&naming),
         None => false,
     }
@@ -137,7 +127,7 @@ pub fn is_misnamed(history: &[Entry], claim: &Claim) -> bool
     ensures { result ≡ is_misnamed (sights history.now) claim.now.token.0 (name_of claim.now.name) }
 {
     for (place, entry) in history.iter().enumerate() {
-        if is_other_at(history, place, entry, claim) {
+        if is_other_at(Front { history, place }, entry, claim) {
             return true;
         }
     }
@@ -145,12 +135,11 @@ pub fn is_misnamed(history: &[Entry], claim: &Claim) -> bool
 }
 
 /// The number of a packet that an entry behind a place posts, where it names the token so.
-fn own_at(history: &[Entry], place: usize, entry: &Entry, claim: &Claim) -> Option<u64>
-    requires { place ≤ length history.now }
+fn own_at(front: Front<'_>, entry: &Entry, claim: &Claim) -> Option<u64>
     ensures { result ≡
-        option_map number_of_naming (option_and_then (if_passes (is_own claim.now.token.0 (name_of claim.now.name))) (naming (front_at history.now place) (sight history.now entry.now))) }
+        option_map number_of_naming (option_and_then (if_passes (is_own claim.now.token.0 (name_of claim.now.name))) (naming (front_of front.entry) (sight front.entry.history.now entry.now))) }
 {
-    match naming(history, place, entry) {
+    match naming(front, entry) {
         Some(naming) => {
             if claim.is_own(&naming) {
                 Some(naming.number)
@@ -168,7 +157,7 @@ pub fn first_sent(history: &[Entry], claim: &Claim) -> u64
     ensures { result ≡ first_sent (sights history.now) claim.now.token.0 (name_of claim.now.name) }
 {
     for (place, entry) in history.iter().enumerate() {
-        match own_at(history, place, entry, claim) {
+        match own_at(Front { history, place }, entry, claim) {
             Some(number) => return number,
             None => (),
         }
@@ -181,5 +170,6 @@ pub fn first_sent(history: &[Entry], claim: &Claim) -> u64
 pub fn present_life(history: &[Entry], node: NodeId) -> usize
     ensures { result ≡ life_at node.0 (sights history.now) }
 {
-    life(history, history.len(), node)
+    let place = history.len();
+    life(Front { history, place }, node)
 }

@@ -7,8 +7,9 @@ ghost use Rattle.mip_provenance.specs.Sights.{sight, sights};
 ghost use Rattle.mip_provenance.specs.Reached.{value_heard, values};
 ghost use Rattle.mip_provenance.specs.Firsts.{is_post};
 ghost use Rattle.mip_provenance.specs.Pairs.{made_with, pair_made, first_alone, first_with, pair_by};
-ghost use Rattle.mip_provenance.specs.Seen.{front_at, pair_of, gives_it};
+ghost use Rattle.mip_provenance.specs.Seen.{front_at, front_of, pair_of, gives_it};
 
+use crate::front::Front;
 use crate::maker::Maker;
 use crate::pair::Pair;
 use crate::posts;
@@ -115,12 +116,11 @@ fn heard_by(history: &[Entry], entry: &Entry, by: u8) -> Option<Token>
 }
 
 /// The first token that an outsider had heard before a place and that gives the authenticator alone.
-fn first_alone(history: &[Entry], place: usize, signed: &Signed, by: u8) -> Option<Pair>
-    requires { place ≤ length history.now }
-    ensures { option_map pair_of result ≡ first_alone (gives_it signed.now) (values by (front_at history.now place)) }
+fn first_alone(front: Front<'_>, signed: &Signed, by: u8) -> Option<Pair>
+    ensures { option_map pair_of result ≡ first_alone (gives_it signed.now) (values by (front_of front.entry)) }
 {
-    for entry in &history[..place] {
-        match heard_by(history, entry, by) {
+    for entry in &front.history[..front.place] {
+        match heard_by(front.history, entry, by) {
             Some(token) => match signed.alone(token) {
                 Some(pair) => return Some(pair),
                 None => (),
@@ -132,12 +132,11 @@ fn first_alone(history: &[Entry], place: usize, signed: &Signed, by: u8) -> Opti
 }
 
 /// The first token that an outsider had heard before a place and that gives the authenticator with a home token.
-fn first_with(history: &[Entry], place: usize, signed: &Signed, by: u8, home: Token) -> Option<Pair>
-    requires { place ≤ length history.now }
-    ensures { option_map pair_of result ≡ first_with (gives_it signed.now) (values by (front_at history.now place)) home.0 }
+fn first_with(front: Front<'_>, signed: &Signed, by: u8, home: Token) -> Option<Pair>
+    ensures { option_map pair_of result ≡ first_with (gives_it signed.now) (values by (front_of front.entry)) home.0 }
 {
-    for entry in &history[..place] {
-        match heard_by(history, entry, by) {
+    for entry in &front.history[..front.place] {
+        match heard_by(front.history, entry, by) {
             Some(token) => match signed.both(home, token) {
                 Some(pair) => return Some(pair),
                 None => (),
@@ -149,14 +148,13 @@ fn first_with(history: &[Entry], place: usize, signed: &Signed, by: u8, home: To
 }
 
 /// The first two tokens that an outsider had heard before a place and that give the authenticator.
-fn first_both(history: &[Entry], place: usize, signed: &Signed, by: u8) -> Option<Pair>
-    requires { place ≤ length history.now }
+fn first_both(front: Front<'_>, signed: &Signed, by: u8) -> Option<Pair>
     ensures { option_map pair_of result
-        ≡ first_some (first_with (gives_it signed.now) (values by (front_at history.now place))) (values by (front_at history.now place)) }
+        ≡ first_some (first_with (gives_it signed.now) (values by (front_of front.entry))) (values by (front_of front.entry)) }
 {
-    for entry in &history[..place] {
-        match heard_by(history, entry, by) {
-            Some(token) => match first_with(history, place, signed, by, token) {
+    for entry in &front.history[..front.place] {
+        match heard_by(front.history, entry, by) {
+            Some(token) => match first_with(front, signed, by, token) {
                 Some(pair) => return Some(pair),
                 None => (),
             },
@@ -180,9 +178,10 @@ pub fn pair(
         Maker::Node(node) => pair_made(history, careof, signed, node, k),
         Maker::Outsider(outsider) => {
             let place = place_of(history, k);
+            let front = Front { history, place };
             match careof {
-                None => first_alone(history, place, signed, outsider),
-                Some(_) => first_both(history, place, signed, outsider),
+                None => first_alone(front, signed, outsider),
+                Some(_) => first_both(front, signed, outsider),
             }
         }
     }

@@ -1,11 +1,12 @@
 //! Whom a token has reached.
 
-ghost use Rattle.std.specs.Prelude.{◌≡◌, ◌≤◌, length};
+ghost use Rattle.std.specs.Prelude.{◌≡◌};
 ghost use Rattle.std.specs.List.{list_any};
 ghost use Rattle.mip_provenance.specs.Sights.{sight};
 ghost use Rattle.mip_provenance.specs.Reached.{is_heard};
-ghost use Rattle.mip_provenance.specs.Seen.{front_at};
+ghost use Rattle.mip_provenance.specs.Seen.{front_of};
 
+use crate::front::Front;
 use crate::posts;
 use mip_entries::Entry;
 use mip_words::Token;
@@ -24,12 +25,11 @@ fn hears(history: &[Entry], entry: &Entry, outsider: u8, token: Token) -> bool
 }
 
 /// An outsider has heard the token before a place.
-pub fn has_heard(history: &[Entry], place: usize, outsider: u8, token: Token) -> bool
-    requires { place ≤ length history.now }
-    ensures { result ≡ list_any (is_heard outsider token.0) (front_at history.now place) }
+pub fn has_heard(front: Front<'_>, outsider: u8, token: Token) -> bool
+    ensures { result ≡ list_any (is_heard outsider token.0) (front_of front.entry) }
 {
-    for entry in &history[..place] {
-        if hears(history, entry, outsider, token) {
+    for entry in &front.history[..front.place] {
+        if hears(front.history, entry, outsider, token) {
             return true;
         }
     }

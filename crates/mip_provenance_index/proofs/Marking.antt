@@ -20,7 +20,7 @@ use Rattle.mip_provenance.specs.Causes.{Claim, home_claim_in, careof_claim_with,
 use Rattle.mip_provenance.specs.Marks.{origin_of, by_claims, by_pair, by_post, by_first, by_key, mark_of}
 use Rattle.mip_provenance.proofs.Plain.{post_step, packet_first}
 use Rattle.mip_provenance_index.specs.declared.first.First.{First}
-use Rattle.mip_provenance_index.specs.declared.known.Known.{Known}
+use Rattle.mip_provenance.specs.declared.known.Known.{Known}
 use Rattle.mip_provenance_index.specs.declared.provenance_index.ProvenanceIndex.{ProvenanceIndex}
 use Rattle.mip_provenance_index.specs.Sights.{seen_behind, seen_in}
 use Rattle.mip_provenance_index.specs.Names.{kept_at, is_otherwise, number_kept}

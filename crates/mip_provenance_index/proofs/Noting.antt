@@ -25,7 +25,7 @@ use Rattle.mip_provenance.specs.Causes.{early, is_early}
 use Rattle.mip_provenance_index.specs.declared.arrival.Arrival.{Arrival}
 use Rattle.mip_provenance_index.specs.declared.first.First.{First}
 use Rattle.mip_provenance_index.specs.declared.heard.Heard.{Heard as TheHeard}
-use Rattle.mip_provenance_index.specs.declared.known.Known.{Known}
+use Rattle.mip_provenance.specs.declared.known.Known.{Known}
 use Rattle.mip_provenance_index.specs.declared.sight.Sight.{Sight as Seen}
 use Rattle.mip_provenance_index.specs.declared.sight.Sight.TheVariants as seen
 use Rattle.mip_provenance_index.specs.declared.provenance_index.ProvenanceIndex.{ProvenanceIndex}

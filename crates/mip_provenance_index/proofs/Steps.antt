@@ -21,7 +21,7 @@ use Rattle.mip_provenance.specs.Pairs.{Pair, made_with}
 use Rattle.mip_provenance.specs.Causes.{new_to, early, is_early}
 use Rattle.mip_provenance.proofs.ListLaws.{along-append}
 use Rattle.mip_provenance_index.specs.declared.arrival.Arrival.{Arrival}
-use Rattle.mip_provenance_index.specs.declared.known.Known.{Known}
+use Rattle.mip_provenance.specs.declared.known.Known.{Known}
 use Rattle.mip_provenance_index.specs.declared.sight.Sight.{Sight as Seen}
 use Rattle.mip_provenance_index.specs.declared.sight.Sight.TheVariants as seen
 use Rattle.mip_provenance_index.specs.Sights.{sight_of}

@@ -3,12 +3,9 @@ use Rattle.std.specs.Prelude.{ℕ, List, Bool, true, false, not, ◌||◌, if◌
 use Rattle.std.specs.Str.{bytes_eq}
 use Rattle.std.specs.Ordering.{nat_cmp}
 use Rattle.std.specs.BTreeMap.{get}
-use Rattle.mip_packets.specs.Says.Carried.{Test}
-use Rattle.mip_provenance.specs.Sights.{Sight}
-use Rattle.mip_provenance.specs.Sights.Sight.{Sent}
 use Rattle.mip_provenance.specs.Names.{Name, Naming, same_name}
 use Rattle.mip_provenance.specs.Seen.{name_of}
-use Rattle.mip_provenance_index.specs.declared.known.Known.{Known}
+pub use Rattle.mip_provenance.specs.KnownNodes.{naming_known}
 use Rattle.mip_provenance_index.specs.declared.names.Names.{Names}
 use Rattle.mip_provenance_index.specs.declared.named.Named.{Named}
 use Rattle.mip_provenance_index.specs.Tokens.{token_number, is_spelled}
@@ -27,13 +24,6 @@ named_at a token = if is_spelled token then get nat_cmp a.map (token_number toke
 
 abbrev pub kept_at : Names → List ℕ → Option Kept
 kept_at a token = option_map kept_of (named_at a token)
-
--- how a sight names a token, by what is known of nodes
-abbrev pub naming_known : (ℕ → Known) → Sight → Option Naming
-naming_known known (Sent number node (Test kind index token destination)) =
-    if (known node).is_agent then None
-    else Some (record { number = number; token = token; name = record { node = node; life = (known node).life; kind = kind; address = destination; index = index } })
-naming_known known _ = None
 
 -- what is kept of a token that a packet names
 abbrev pub renamed : Naming → Option Kept → Kept

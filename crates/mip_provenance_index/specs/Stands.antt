@@ -7,6 +7,7 @@ use Rattle.mip_entries.specs.declared.entry.Entry.{Entry}
 use Rattle.mip_entries.specs.declared.entry.Entry.TheVariants as entries
 use Rattle.mip_provenance.specs.Lists.{first_some, until}
 use Rattle.mip_provenance.specs.Entries.{packet_in, declared_in}
+pub use Rattle.mip_provenance.specs.Entries.{number_posted}
 use Rattle.mip_provenance.specs.Sights.{Sight}
 use Rattle.mip_provenance.specs.Reached.{is_heard, values}
 use Rattle.mip_provenance.specs.Names.{Naming, is_agent, life_at, namings, is_other}
@@ -15,7 +16,7 @@ use Rattle.mip_provenance.specs.Pairs.{Pair, made_with}
 use Rattle.mip_provenance.specs.Causes.{is_early}
 use Rattle.mip_provenance_index.specs.declared.arrival.Arrival.{Arrival}
 use Rattle.mip_provenance_index.specs.declared.first.First.{First}
-use Rattle.mip_provenance_index.specs.declared.known.Known.{Known}
+use Rattle.mip_provenance.specs.declared.known.Known.{Known}
 use Rattle.mip_provenance_index.specs.declared.updates.Updates.{Updates}
 use Rattle.mip_provenance_index.specs.declared.provenance_index.ProvenanceIndex.{ProvenanceIndex}
 use Rattle.mip_provenance_index.specs.Sights.{token_of, seen_in}
@@ -106,12 +107,6 @@ pub record StandsFor (w : ProvenanceIndex) (past : List Entry) : Type 0 where
   pub early : (t : List ℕ) → is_used w.early t ≡ is_early (seen_in past) t
   pub made : (n k : ℕ) → made_at w.made n k ≡ first_some (made_with n k) (seen_in past)
   pub updates : UpdatesStand w.updates w.heard.list.items (seen_in past)
-
--- the number of the packet that an entry posts
-abbrev pub number_posted : Entry → Option ℕ
-number_posted (entries.Sent number node shielded packet) = Some number
-number_posted (entries.Injected number outsider link packet) = Some number
-number_posted _ = None
 
 -- an entry comes next: a packet that it posts takes the next number
 abbrev pub IsNext : List Entry → Entry → Type 0

@@ -7,7 +7,6 @@ mod early;
 mod first;
 mod firsts;
 mod heard;
-mod known;
 mod made;
 mod named;
 mod names;

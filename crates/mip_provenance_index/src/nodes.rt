@@ -2,8 +2,8 @@ ghost use Rattle.std.specs.Prelude.{◌≡◌, ◌==◌, ℕ, OnOk, if◌then◌
 ghost use Rattle.mip_provenance_index.specs.Nodes.{stranger, known_at, known_step};
 ghost use Rattle.mip_provenance_index.specs.Sights.{sight_of};
 
-use crate::known::Known;
 use crate::sight::Sight;
+use mip_provenance::Known;
 use mip_words::Memory;
 use std::alloc::Global;
 use std::collections::BTreeMap;

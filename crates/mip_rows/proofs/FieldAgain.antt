@@ -71,7 +71,7 @@ pub link-again : (ds : List Declaration) → NamesFound ds → (l : LinkId) → 
 unfolding link place link_name
 link-again ds found l is = ap (λ (o : Option ℕ). or_reason reasons.Name o >>= (λ p. Ok (record { 0 = p }))) (found.links l.0 is)
 
-pub node-again : (ds : List Declaration) → NamesFound ds → (n : NodeId) → IsNode ds n → kinds.node ds (node_name (Some ds) n) ≡ Ok n
+pub node-again : (ds : List Declaration) → NamesFound ds → (n : NodeId) → IsNode ds n → kinds.node sorts.Node ds (node_name (Some ds) n) ≡ Ok n
 unfolding node place node_name
 node-again ds found n is = ap (λ (o : Option ℕ). or_reason reasons.Name o >>= (λ p. Ok (record { 0 = p }))) (found.nodes n.0 is)
 

@@ -106,7 +106,7 @@ link-reads ds f l e =
     let o = is_some _ _ _ q.1 in
     subst (λ (m : LinkId). (f ≡ link_name (Some ds) m) × IsLink ds m) (ok_is _ l q.2) (link_place ds f q.0 o, place_declared sorts.Link f ds q.0 o)
 
-pub node-reads : (ds : List Declaration) → Reads (kinds.node ds) (node_name (Some ds)) (IsNode ds)
+pub node-reads : (ds : List Declaration) → Reads (kinds.node sorts.Node ds) (node_name (Some ds)) (IsNode ds)
 unfolding node place node_name
 node-reads ds f n e =
     let q = bind_ok (or_reason reasons.Name (place_of sorts.Node f ds)) (λ p. Ok (record { 0 = p })) n e in

@@ -10,6 +10,7 @@ use Rattle.mip_words.specs.Steps.{◌>>=◌}
 use Rattle.mip_words.proofs.StepLaws.{bind_ok, ok_is}
 use Rattle.mip_lines.specs.HexFields.{address_hex}
 use Rattle.mip_symbols.specs.Places.{AreFew, NamesFound}
+use Rattle.mip_symbols.specs.declared.places.Sort.TheVariants as sorts
 use Rattle.mip_symbols.specs.declared.declaration.Declaration.{Declaration}
 use Rattle.mip_symbols.specs.declared.reason.Reason.{Reason}
 use Rattle.mip_rows.specs.Fields as fields
@@ -55,7 +56,7 @@ value-read ds few kinds.Cause = read_as (λ x. values.U8 x) (fields.number 1 3) 
 value-read ds few kinds.Moment = read_as (λ x. values.Moment x) (fields.moment) (λ m. decimal m.0) (IsMoment) (moment-reads) (IsField ds kinds.Moment) (λ f x e p. (e, p))
 value-read ds few kinds.Address = read_as (λ x. values.Address x) (fields.address) (address_hex) (IsAddress) (address-reads) (IsField ds kinds.Address) (λ f x e p. (e, p))
 value-read ds few kinds.Token = read_as (λ x. values.Token x) (fields.token) (token_hex) (IsToken) (token-reads) (IsField ds kinds.Token) (λ f x e p. (e, p))
-value-read ds few kinds.Node = read_as (λ x. values.Node x) (fields.node ds) (node_name (Some ds)) (IsNode ds) (node-reads ds) (IsField ds kinds.Node) (λ f x e p. (e, p))
+value-read ds few kinds.Node = read_as (λ x. values.Node x) (fields.node sorts.Node ds) (node_name (Some ds)) (IsNode ds) (node-reads ds) (IsField ds kinds.Node) (λ f x e p. (e, p))
 value-read ds few kinds.Link = read_as (λ x. values.Link x) (fields.link ds) (link_name (Some ds)) (IsLink ds) (link-reads ds) (IsField ds kinds.Link) (λ f x e p. (e, p))
 value-read ds few kinds.Outsider = read_as (λ x. values.Outsider x) (fields.outsider ds) (outsider_name (Some ds)) (IsOutsider ds) (outsider-reads ds) (IsField ds kinds.Outsider) (λ f x e p. (e, p))
 value-read ds few kinds.Who = read_as (λ x. values.Who x) (fields.who ds) (who_name (Some ds)) (IsWho ds) (who-reads ds few) (IsField ds kinds.Who) (λ f x e p. (e, p))

@@ -1,31 +1,21 @@
 -- Fields of each kind, as they are read.
-use Rattle.std.specs.Prelude.{ℕ, ◌+◌, List, Bool, true, false, if◌then◌else◌, Option, Some, None, Result, Ok, Err, codes}
+use Rattle.std.specs.Prelude.{ℕ, ◌+◌, List, Bool, true, false, if◌then◌else◌, Option, Result, Ok, Err, codes}
 use Rattle.std.specs.Str.{bytes_eq}
 use Rattle.mip_words.specs.Hex.{unhex_exact}
 use Rattle.mip_words.specs.Steps.{◌>>=◌}
 use Rattle.mip_words.specs.declared.address.Address.{Address}
-use Rattle.mip_words.specs.declared.ids.LinkId.{LinkId}
-use Rattle.mip_words.specs.declared.ids.NodeId.{NodeId}
 use Rattle.mip_words.specs.declared.moment.Moment.{Moment}
 use Rattle.mip_words.specs.declared.token.Token.{Token}
 use Rattle.mip_words.specs.declared.why.Why.{Why}
-use Rattle.mip_lines.specs.Decimals.{number_in}
 use Rattle.mip_lines.specs.HexFields.{address_in, hex_field}
-use Rattle.mip_symbols.specs.Places.{place_of}
+use Rattle.mip_symbols.specs.Kinds as kinds
+pub use Rattle.mip_symbols.specs.Kinds.{or_reason}
+unfoldable pub use Rattle.mip_symbols.specs.Kinds.{number, place, link, node, outsider, some_link}
 use Rattle.mip_symbols.specs.declared.declaration.Declaration.{Declaration}
-use Rattle.mip_symbols.specs.declared.places.Sort.{Sort}
 use Rattle.mip_symbols.specs.declared.places.Sort.TheVariants as sorts
 use Rattle.mip_symbols.specs.declared.reason.Reason.{Reason}
 use Rattle.mip_symbols.specs.declared.reason.Reason.TheVariants as reasons
 use Rattle.mip_rows.specs.Whys.{why_among}
-
-abbrev pub or_reason : {A : Type 0} → Reason → Option A → Result A Reason
-or_reason why (Some x) = Ok x
-or_reason why None = Err why
-
--- a number from low to high
-unfoldable pub number : ℕ → ℕ → List ℕ → Result ℕ Reason
-number low high field = or_reason reasons.Number (number_in low high field)
 
 abbrev pub u8 : List ℕ → Result ℕ Reason
 u8 field = number 0 255 field
@@ -56,23 +46,6 @@ token field = do
 unfoldable pub bytes : List ℕ → Result (List ℕ) Reason
 bytes field = or_reason reasons.Hex (hex_field 4294967295 field)
 
--- the place of what is of this sort and has this name
-unfoldable pub place : Sort → List Declaration → List ℕ → Result ℕ Reason
-place sort ds field = or_reason reasons.Name (place_of sort field ds)
-
-unfoldable pub link : List Declaration → List ℕ → Result LinkId Reason
-link ds field = do
-  p ← place sorts.Link ds field
-  Ok (record { 0 = p })
-
-unfoldable pub node : List Declaration → List ℕ → Result NodeId Reason
-node ds field = do
-  p ← place sorts.Node ds field
-  Ok (record { 0 = p })
-
-unfoldable pub outsider : List Declaration → List ℕ → Result ℕ Reason
-outsider ds field = place sorts.Outsider ds field
-
 abbrev pub node_or_outsider : Result ℕ Reason → Result ℕ Reason → Result ℕ Reason
 node_or_outsider (Ok n) o = Ok n
 node_or_outsider (Err bad) (Ok o) = Ok (32 + o)
@@ -84,10 +57,7 @@ who ds field = node_or_outsider (place sorts.Node ds field) (outsider ds field)
 
 -- `-` for none
 abbrev pub or_none : {A : Type 0} → (List ℕ → Result A Reason) → List ℕ → Result (Option A) Reason
-or_none read field = if bytes_eq field (codes "-") then Ok None else (read field >>= (λ x. Ok (Some x)))
-
-unfoldable pub some_link : List Declaration → List ℕ → Result (Option LinkId) Reason
-some_link ds field = or_none (link ds) field
+or_none read field = kinds.or_none (codes "-") read field
 
 unfoldable pub some_address : List ℕ → Result (Option Address) Reason
 some_address field = or_none address field

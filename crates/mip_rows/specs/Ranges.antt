@@ -1,15 +1,12 @@
 -- The values that a field of each kind can have: each name is declared, each number within its range, and each reason
 -- one of those that may stand there.
-use Rattle.std.specs.Prelude.{◌≡◌, ◌⊎◌, ℕ, ◌+◌, ◌<◌, ◌≤◌, ◌^◌, List, [], ◌∷◌, length, Option, Some, None}
+use Rattle.std.specs.Prelude.{◌≡◌, ◌⊎◌, ℕ, ◌+◌, ◌<◌, ◌≤◌, ◌^◌, List, [], ◌∷◌, length, Some}
 use Rattle.mip_words.specs.Numbers.{IsBytes}
-use Rattle.mip_words.specs.declared.address.Address.{Address}
-use Rattle.mip_words.specs.declared.ids.LinkId.{LinkId}
-use Rattle.mip_words.specs.declared.ids.NodeId.{NodeId}
-use Rattle.mip_words.specs.declared.moment.Moment.{Moment}
-use Rattle.mip_words.specs.declared.token.Token.{Token}
 use Rattle.mip_symbols.specs.Places.{members}
 use Rattle.mip_symbols.specs.declared.declaration.Declaration.{Declaration}
 use Rattle.mip_symbols.specs.declared.places.Sort.TheVariants as sorts
+pub use Rattle.mip_schedule.specs.Lawful.{IsNode, IsLink, IsOutsider}
+pub use Rattle.mip_entries.specs.Widths.{IsNumber, IsMoment, IsAddress, IsToken, IfPresent}
 use Rattle.mip_rows.specs.Texts.{row_texts}
 use Rattle.mip_rows.specs.Whys.{gone_whys, unsent_whys, dropped_whys, IsAmong}
 use Rattle.mip_rows.specs.declared.field_kind.Kind.{Kind}
@@ -20,31 +17,9 @@ use Rattle.mip_rows.specs.declared.tail.Tail.TheVariants as tails
 use Rattle.mip_rows.specs.declared.value.Value.{Value}
 use Rattle.mip_rows.specs.declared.value.Value.TheVariants as values
 
--- a number of so many bits
-abbrev pub IsNumber : ℕ → ℕ → Type 0
-IsNumber bits x = x < 2 ^ bits
-
-abbrev pub IsMoment : Moment → Type 0
-IsMoment moment = IsNumber 64 moment.0
-
-abbrev pub IsAddress : Address → Type 0
-IsAddress address = IsNumber 128 address.0
-
-abbrev pub IsToken : Token → Type 0
-IsToken token = (length token.0 ≡ 8) × IsBytes token.0
-
 -- bytes, fewer than a text may have
 abbrev pub AreBytes : List ℕ → Type 0
 AreBytes bytes = (length bytes < 2 ^ 32) × IsBytes bytes
-
-abbrev pub IsNode : List Declaration → NodeId → Type 0
-IsNode ds node = node.0 < length (members sorts.Node ds)
-
-abbrev pub IsLink : List Declaration → LinkId → Type 0
-IsLink ds link = link.0 < length (members sorts.Link ds)
-
-abbrev pub IsOutsider : List Declaration → ℕ → Type 0
-IsOutsider ds outsider = outsider < length (members sorts.Outsider ds)
 
 -- a node by its number, or an outsider by 32 more than its number
 abbrev pub IsWho : List Declaration → ℕ → Type 0
@@ -53,10 +28,6 @@ IsWho ds who = (who < length (members sorts.Node ds)) ⊎ ((outsider : ℕ) × I
 -- one of the three reasons why an acceptance is forged
 abbrev pub IsCause : ℕ → Type 0
 IsCause cause = (1 ≤ cause) × (cause ≤ 3)
-
-abbrev pub IfPresent : {A : Type 0} → (A → Type 0) → Option A → Type 0
-IfPresent Is (Some x) = Is x
-IfPresent Is None = Unit {0}
 
 -- a value of this kind
 abbrev pub IsOfKind : List Declaration → Kind → Value → Type 0

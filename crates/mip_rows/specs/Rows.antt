@@ -3,6 +3,7 @@ use Rattle.std.specs.Prelude.{◌≡◌, ℕ, ◌+◌, ◌==◌, List, [], ◌�
 use Rattle.std.specs.Str.{bytes_eq}
 use Rattle.mip_words.specs.Steps.{◌>>=◌}
 use Rattle.mip_symbols.specs.declared.declaration.Declaration.{Declaration}
+use Rattle.mip_symbols.specs.declared.places.Sort.TheVariants as sorts
 use Rattle.mip_symbols.specs.declared.reason.Reason.{Reason}
 use Rattle.mip_symbols.specs.declared.reason.Reason.TheVariants as reasons
 use Rattle.mip_rows.specs.Fields as fields
@@ -34,7 +35,7 @@ value_of ds kinds.Cause f = as_value (λ x. values.U8 x) (fields.number 1 3 f)
 value_of ds kinds.Moment f = as_value (λ x. values.Moment x) (fields.moment f)
 value_of ds kinds.Address f = as_value (λ x. values.Address x) (fields.address f)
 value_of ds kinds.Token f = as_value (λ x. values.Token x) (fields.token f)
-value_of ds kinds.Node f = as_value (λ x. values.Node x) (fields.node ds f)
+value_of ds kinds.Node f = as_value (λ x. values.Node x) (fields.node sorts.Node ds f)
 value_of ds kinds.Link f = as_value (λ x. values.Link x) (fields.link ds f)
 value_of ds kinds.Outsider f = as_value (λ x. values.Outsider x) (fields.outsider ds f)
 value_of ds kinds.Who f = as_value (λ x. values.Who x) (fields.who ds f)

@@ -1,7 +1,6 @@
 //! Fields of each kind, as they are read.
 
-ghost use Rattle.std.specs.Prelude.{◌≡◌, ◌≤◌, IfOk};
-ghost use Rattle.mip_symbols.specs.Places.{AreFew};
+ghost use Rattle.std.specs.Prelude.{◌≡◌};
 ghost use Rattle.mip_rows.specs.Fields as fields;
 ghost use Rattle.mip_rows.specs.Rows.{GivesRow};
 ghost use Rattle.mip_rows.specs.Whys.{why_among};
@@ -9,26 +8,14 @@ ghost use Rattle.mip_rows.specs.Whys.{why_among};
 use crate::fault::RowFault;
 use crate::why_words::why_among;
 use mip_lines::{hex_address, hex_bytes};
-use mip_symbols::{Declaration, Reason, Sort, place_of};
-use mip_words::{Address, Bytes, Holder, LinkId, Moment, NodeId, Token, Why, hex_exact};
+use mip_symbols::{FewDeclarations, Reason, Sort, kinds};
+use mip_words::{Address, Bytes, Holder, Moment, NodeId, Token, Why, hex_exact};
 use std::alloc::Global;
-
-/// A number from `low` to `high`.
-#[tactic(auto, unfolding(crate::specs::Fields::number))]
-fn number(low: u64, high: u64, field: &[u8]) -> Result<u64, Reason>
-    ensures value { result ≡ fields.number low high field.now }
-    ensures within { IfOk result (λ n. n ≤ high) }
-{
-    let Some(number) = mip_lines::number(low, high, field) else {
-        return Err(Reason::Number);
-    };
-    Ok(number)
-}
 
 pub fn u8_field(field: &[u8]) -> Result<u8, Reason>
     ensures { result ≡ fields.u8 field.now }
 {
-    let number = number(0, 255, field)?;
+    let number = kinds::number(0, 255, field)?;
     Ok(number as u8)
 }
 
@@ -36,28 +23,28 @@ pub fn u8_field(field: &[u8]) -> Result<u8, Reason>
 pub fn cause(field: &[u8]) -> Result<u8, Reason>
     ensures { result ≡ fields.number 1 3 field.now }
 {
-    let number = number(1, 3, field)?;
+    let number = kinds::number(1, 3, field)?;
     Ok(number as u8)
 }
 
 pub fn u16_field(field: &[u8]) -> Result<u16, Reason>
     ensures { result ≡ fields.u16 field.now }
 {
-    let number = number(0, 65_535, field)?;
+    let number = kinds::number(0, 65_535, field)?;
     Ok(number as u16)
 }
 
 pub fn u32_field(field: &[u8]) -> Result<u32, Reason>
     ensures { result ≡ fields.u32 field.now }
 {
-    let number = number(0, 4_294_967_295, field)?;
+    let number = kinds::number(0, 4_294_967_295, field)?;
     Ok(number as u32)
 }
 
 pub fn u64_field(field: &[u8]) -> Result<u64, Reason>
     ensures { result ≡ fields.u64 field.now }
 {
-    number(0, 18_446_744_073_709_551_615, field)
+    kinds::number(0, 18_446_744_073_709_551_615, field)
 }
 
 #[tactic(auto, unfolding(crate::specs::Fields::moment))]
@@ -100,66 +87,14 @@ pub fn bytes(alloc: Global, field: &[u8]) -> Result<Bytes, RowFault>
     Ok(bytes)
 }
 
-/// The place of what is of this sort and has this name.
-#[tactic(auto, unfolding(crate::specs::Fields::place), using(mip_symbols::proofs::PlaceLaws::place_small))]
-fn place(sort: Sort, ds: &[Declaration], field: &[u8]) -> Result<u8, Reason>
-    requires { AreFew ds.now }
-    ensures value { result ≡ fields.place sort ds.now field.now }
-    ensures small { IfOk result (λ p. p ≤ 31) }
-{
-    let Some(place) = place_of(ds, sort, field) else {
-        return Err(Reason::Name);
-    };
-    Ok(place as u8)
-}
-
-#[tactic(auto, unfolding(crate::specs::Fields::link))]
-pub fn link(ds: &[Declaration], field: &[u8]) -> Result<LinkId, Reason>
-    requires { AreFew ds.now }
-    ensures { result ≡ fields.link ds.now field.now }
-{
-    Ok(LinkId(place(Sort::Link, ds, field)?))
-}
-
-#[tactic(auto, unfolding(crate::specs::Fields::node))]
-pub fn node(ds: &[Declaration], field: &[u8]) -> Result<NodeId, Reason>
-    requires { AreFew ds.now }
-    ensures { result ≡ fields.node ds.now field.now }
-{
-    Ok(NodeId(place(Sort::Node, ds, field)?))
-}
-
-#[tactic(auto, unfolding(crate::specs::Fields::outsider))]
-pub fn outsider(ds: &[Declaration], field: &[u8]) -> Result<u8, Reason>
-    requires { AreFew ds.now }
-    ensures value { result ≡ fields.outsider ds.now field.now }
-    ensures small { IfOk result (λ o. o ≤ 31) }
-{
-    place(Sort::Outsider, ds, field)
-}
-
 /// The number of a holder: a node has this name, or an outsider.
 #[tactic(auto, unfolding(crate::specs::Fields::who))]
-pub fn who(ds: &[Declaration], field: &[u8]) -> Result<u8, Reason>
-    requires { AreFew ds.now }
+pub fn who(ds: &FewDeclarations<'_>, field: &[u8]) -> Result<u8, Reason>
     ensures { result ≡ fields.who ds.now field.now }
 {
-    match place(Sort::Node, ds, field) {
+    match kinds::place(Sort::Node, ds, field) {
         Ok(node) => Ok(Holder::Node(NodeId(node)).number()),
-        Err(_) => Ok(Holder::Outsider(outsider(ds, field)?).number()),
-    }
-}
-
-/// A link, or none.
-#[tactic(auto, unfolding(crate::specs::Fields::some_link))]
-pub fn some_link(ds: &[Declaration], field: &[u8]) -> Result<Option<LinkId>, Reason>
-    requires { AreFew ds.now }
-    ensures { result ≡ fields.some_link ds.now field.now }
-{
-    if field == b"-".as_slice() {
-        Ok(None)
-    } else {
-        Ok(Some(link(ds, field)?))
+        Err(_) => Ok(Holder::Outsider(kinds::outsider(ds, field)?).number()),
     }
 }
 

@@ -10,6 +10,7 @@ use Rattle.mip_words.specs.Steps.{◌>>=◌}
 use Rattle.mip_words.proofs.StepLaws.{bind_ok, ok_is}
 use Rattle.mip_lines.specs.Cutting.{rows_of}
 use Rattle.mip_lines.proofs.LineLaws.{text-spelled}
+use Rattle.mip_lines.proofs.TextRows.{end_row}
 use Rattle.mip_schedule.specs.Contents.{Content}
 use Rattle.mip_schedule.specs.DeclarationTimes.{declaration_line}
 use Rattle.mip_schedule.specs.EventTimes.{event_line}
@@ -24,9 +25,6 @@ use Rattle.mip_symbols.specs.declared.reason.Reason.{Reason}
 use Rattle.mip_schedule.proofs.DeclarationLaws.{declaration-spelled}
 use Rattle.mip_schedule.proofs.EventLaws.{event-spelled}
 use Rattle.mip_symbols.proofs.KindLaws.{number-spells, number-within, seed-spells, worded}
-
-abbrev end_row : List (List ℕ)
-end_row = [] ∷ []
 
 pub at_line_ok : {A : Type 0} (n : ℕ) (r : Result A Reason) (x : A) → at_line n r ≡ Ok x → r ≡ Ok x
 at_line_ok n (Ok y) x e = ap (λ z. Ok z) (ok_is y x e)
@@ -44,7 +42,7 @@ last-spelled numbered ds n es ([] ∷ []) out e = record { news = []; whole = sy
 last-spelled numbered ds n es ([] ∷ f ∷ fs) out e = absurd cc
 last-spelled numbered ds n es ((c ∷ cs) ∷ fs) out e = absurd cc
 
-one_more : {A : Type 0} (xs : List A) (x : A) (ys out : List A) → out ≡ (xs ++ x ∷ []) ++ ys → out ≡ xs ++ x ∷ ys
+pub one_more : {A : Type 0} (xs : List A) (x : A) (ys out : List A) → out ≡ (xs ++ x ∷ []) ++ ys → out ≡ xs ++ x ∷ ys
 one_more xs x ys out e = e ∙ append_assoc xs (x ∷ []) ys
 
 events-spelled : (numbered : Bool) (ds : List Declaration) (rows : List (List (List ℕ))) (es : List Event) (n : ℕ) (out : List Event) → events_of numbered ds es n rows ≡ Ok out → IsEvents numbered ds es rows out

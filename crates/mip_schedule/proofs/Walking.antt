@@ -1,12 +1,11 @@
 -- One line more of a text.
 use Rattle.std.proofs.Common.{◌≡◌, ℕ, ◌+◌, ◌<◌, List, [], ◌∷◌, ◌++◌, length, Bool, true, false, cond, refl, sym, ap, ◌∙◌, subst, zero-add, arith}
-use Rattle.std.specs.Prelude.{Option, Some, None, Result, Ok, Err, map, ◌==◌}
-use Rattle.std.specs.List.{slice_split, onto_first, sum_by}
-use Rattle.std.proofs.lemmas.Bool.{eqb-false}
-use Rattle.std.proofs.lemmas.List.Splits.{length-slice_split}
+use Rattle.std.specs.Prelude.{Option, Some, None, Result, Ok, Err}
+use Rattle.std.specs.List.{sum_by}
 use Rattle.std.proofs.lemmas.List.Sums.{sum_by-append}
 use Rattle.mip_words.specs.Steps.{◌>>=◌}
 use Rattle.mip_lines.specs.Cutting.{parts, fields_of, rows_of}
+use Rattle.mip_lines.proofs.TextRows.{some_row, rows_step, rows_end, full_line}
 use Rattle.mip_schedule.specs.Declarings.{next_of}
 use Rattle.mip_schedule.specs.DeclarationTimes.{declaration_line}
 use Rattle.mip_schedule.specs.EventTimes.{event_line, timed_line, waited, carried, wait_of, carry_of}
@@ -27,27 +26,6 @@ pub gives_fault : {X Y A B : Type 0} (v : X → A) (w : Y → B) (fault : Schedu
     → GivesText {X = X} {Y = A} v (Err fault) r → whole ≡ (r >>= f) → GivesText {X = Y} {Y = B} w (Err fault) whole
 gives_fault v w (Bad line why) r f whole gives e = e ∙ ap (λ (s : Result _ Wrong). s >>= f) gives
 gives_fault v w Memory r f whole gives e = tt
-
-shape : (xs : List (List ℕ)) → 0 < length xs → (first : List ℕ) × (rest : List (List ℕ)) × (xs ≡ first ∷ rest)
-shape [] long = absurd (omega arith)
-shape (x ∷ xs) long = (x, xs, refl)
-
--- a text has a part at least
-some_part : (c : ℕ) (bytes : List ℕ) → (first : List ℕ) × (rest : List (List ℕ)) × (parts c bytes ≡ first ∷ rest)
-unfolding parts
-some_part c bytes = shape (slice_split (λ b. b == c) bytes) (omega (arith, length-slice_split (λ b. b == c) bytes))
-
-pub rows_step : (text row more : List ℕ) → parts 10 text ≡ row ∷ parts 10 more → rows_of text ≡ fields_of row ∷ rows_of more
-rows_step text row more e = ap (map fields_of) e
-
--- a text that has no line end is one row
-pub rows_end : (text : List ℕ) → parts 10 text ≡ text ∷ [] → rows_of text ≡ fields_of text ∷ []
-rows_end text e = ap (map fields_of) e
-
-some_row : (text : List ℕ) → (row : List (List ℕ)) × (rows : List (List (List ℕ))) × (rows_of text ≡ row ∷ rows)
-some_row text =
-    let p = some_part 10 text in
-    (fields_of p.0, map fields_of p.1, ap (map fields_of) p.2)
 
 pub head_step : (word : List ℕ) (n : ℕ) (text row more : List ℕ) → parts 10 text ≡ row ∷ parts 10 more
     → head_field word n (rows_of text) ≡ (at_line n (headed word (fields_of row)) >>= (λ field. Ok (field, rows_of more)))
@@ -83,9 +61,6 @@ pub carried_more : (es : List Event) (e : Event) → carried (es ++ e ∷ []) �
 unfolding carried
 carried_more es e = sum_by-append carry_of es (e ∷ []) ∙ ap (λ (n : ℕ). sum_by carry_of es + n) (zero-add (carry_of e))
 
-pub not_zero : (n : ℕ) → (n == 0) ≡ false → 0 < n
-not_zero n e = grind (arith, eqb-false)
-
 pub events_end : (numbered : Bool) (ds : List Declaration) (es : List Event) (n : ℕ) (text : List ℕ) → parts 10 text ≡ text ∷ [] → events_of numbered ds es n (rows_of text) ≡ last_row n es (fields_of text)
 unfolding events_of
 events_end numbered ds es n text e = ap (events_of numbered ds es n) (rows_end text e)
@@ -98,15 +73,7 @@ last_empty n es (c ∷ text) none = absurd (omega arith)
 
 -- something behind the last line end
 pub last_full : (n : ℕ) (es : List Event) (text : List ℕ) → 0 < length text → last_row n es (fields_of text) ≡ bad_form n
-unfolding parts
-last_full n es [] some = absurd (omega arith)
-last_full n es (c ∷ text) some =
-    let p = some_part 32 text in
-    subst (λ (rest : List (List ℕ)). last_row n es (cond (c == 32) ([] ∷ rest) (onto_first c rest)) ≡ bad_form n) (sym p.2) (by (c == 32) p.0 p.1)
-  where
-    by : (b : Bool) (first : List ℕ) (rest : List (List ℕ)) → last_row n es (cond b ([] ∷ first ∷ rest) (onto_first c (first ∷ rest))) ≡ bad_form n
-    by true first rest = refl
-    by false first rest = refl
+last_full n es text some = full_line (last_row n es) (bad_form n) (λ c field fields. refl) (λ field fields. refl) text some
 
 -- what follows a line of declarations
 abbrev pub following : List Declaration → ℕ → List (List (List ℕ)) → Option Declaration → Result Declared Wrong

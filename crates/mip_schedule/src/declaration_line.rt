@@ -4,10 +4,10 @@ ghost use Rattle.std.specs.Prelude.{◌≡◌, ◌||◌};
 ghost use Rattle.std.specs.List.{count_by, list_any};
 ghost use Rattle.mip_lines.specs.Cutting.{texts};
 ghost use Rattle.mip_schedule.specs.DeclarationTimes as rows;
-ghost use Rattle.mip_symbols.specs.Places.{AreFew, is_mobile, members};
+ghost use Rattle.mip_symbols.specs.Places.{is_mobile, members};
 
 use crate::declaration_rows::declaration_fields;
-use mip_symbols::{Declaration, Reason, Sort, count, is_mobile, member, refused};
+use mip_symbols::{Declaration, FewDeclarations, Reason, Sort, count, is_mobile, member, refused};
 use mip_words::{Address, HOME_AGENTS, LinkId, NodeId, Prefix};
 
 fn interface_of(address: Address) -> u64
@@ -154,12 +154,11 @@ fn undeclared(ds: &[Declaration], d: Declaration) -> Option<Reason>
 
 /// A line of declarations after these.
 #[tactic(auto, unfolding(crate::specs::DeclarationTimes::declaration_line))]
-pub fn declaration_line(ds: &[Declaration], row: &[&[u8]]) -> Result<Declaration, Reason>
-    requires { AreFew ds.now }
+pub fn declaration_line(ds: &FewDeclarations<'_>, row: &[&[u8]]) -> Result<Declaration, Reason>
     ensures { result ≡ rows.declaration_line ds.now (texts row.now) }
 {
     let d = declaration_fields(ds, row)?;
-    match undeclared(ds, d) {
+    match undeclared(ds.as_slice(), d) {
         None => Ok(d),
         Some(why) => Err(why),
     }

@@ -11,7 +11,7 @@ ghost use Rattle.mip_schedule.specs.Reading as reading;
 use crate::declaration_line::declaration_line;
 use crate::fault::ScheduleFault;
 use mip_lines::{cut_at, few_fields};
-use mip_symbols::{Declaration, Declarations, Reason};
+use mip_symbols::{Declaration, Declarations, FewDeclarations, Reason};
 use std::alloc::Global;
 
 /// Declarations, the number of the line behind `run`, and the text from there on.
@@ -34,11 +34,10 @@ fn is_run(row: &[&[u8]]) -> bool
 /// The declaration of one line, or none at `run`.
 #[tactic(auto, unfolding(crate::specs::Declarings::next_of), using(crate::proofs::LongLaws::long_next))]
 fn next_declaration(
-    ds: &[Declaration],
+    ds: &FewDeclarations<'_>,
     line: u32,
     row: &[u8],
 ) -> Result<Option<Declaration>, ScheduleFault>
-    requires { AreFew ds.now }
     ensures { GivesText (λ d. d) result (next_of ds.now line (fields_of row.now)) }
 {
     let Some(row) = few_fields(row) else {
@@ -71,7 +70,11 @@ pub fn declarations_from(
     let mut line = first;
     let mut rest = text;
     while let Some((row, more)) = cut_at(b'\n', rest) {
-        let next = match next_declaration(declarations.as_slice(), line, row) {
+        let next = match next_declaration(
+            &FewDeclarations::new(declarations.as_slice()),
+            line,
+            row,
+        ) {
             Ok(next) => next,
             Err(fault) => return Err(fault),
         };

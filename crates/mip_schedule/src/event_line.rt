@@ -4,13 +4,13 @@ ghost use Rattle.std.specs.Prelude.{◌≡◌, ◌+◌, ◌≤◌, IfNone, IfOk}
 ghost use Rattle.mip_lines.specs.Cutting.{texts};
 ghost use Rattle.mip_schedule.specs.EventTimes as rows;
 ghost use Rattle.mip_symbols.specs.Faults.{GivesLine};
-ghost use Rattle.mip_symbols.specs.Places.{AreFew};
 
 use crate::declaration_line::is_prefix_taken;
 use crate::event::Event;
 use crate::event_rows::event_fields;
+use crate::sums::Sums;
 use crate::update_ends::UpdateEnds;
-use mip_symbols::{Declaration, LineFault, Reason, refused, too_many};
+use mip_symbols::{Declaration, FewDeclarations, LineFault, Reason, refused, too_many};
 use std::alloc::Global;
 
 /// How long an event waits, in milliseconds.
@@ -63,15 +63,13 @@ fn is_wrong_test(lifetime: u16, ends: UpdateEnds, test: Option<u32>) -> bool
 
 /// What keeps an event from standing after these declarations, and after events with these sums.
 #[tactic(auto, unfolding(crate::specs::EventTimes::misfit))]
-fn misfit(ds: &[Declaration], waits: u32, carries: u32, e: &Event) -> Option<Reason>
-    requires waits { waits ≤ 36000000 }
-    requires carries { carries ≤ 200000 }
-    ensures value { result ≡ rows.misfit ds.now waits carries e.now }
-    ensures waits { IfNone result (waits + rows.wait_of e.now ≤ 36000000) }
-    ensures carries { IfNone result (carries + rows.carry_of e.now ≤ 200000) }
+fn misfit(ds: &[Declaration], sums: Sums, e: &Event) -> Option<Reason>
+    ensures value { result ≡ rows.misfit ds.now sums.waits sums.carries e.now }
+    ensures waits { IfNone result (sums.waits + rows.wait_of e.now ≤ 36000000) }
+    ensures carries { IfNone result (sums.carries + rows.carry_of e.now ≤ 200000) }
 {
     match e {
-        Event::Wait { ms } => too_many(36_000_000, waits, *ms, Reason::Time),
+        Event::Wait { ms } => too_many(36_000_000, sums.waits, *ms, Reason::Time),
         Event::Payload { proto, .. } => refused(is_reserved(*proto), Reason::Number),
         Event::Inject { packet, .. } => refused(!is_packet(packet.as_slice()), Reason::Packet),
         Event::Bind {
@@ -89,23 +87,13 @@ fn misfit(ds: &[Declaration], waits: u32, carries: u32, e: &Event) -> Option<Rea
                 Reason::Address,
             )
         }
-        Event::Carry { count } => too_many(200_000, carries, *count, Reason::Carry),
+        Event::Carry { count } => too_many(200_000, sums.carries, *count, Reason::Carry),
         _ => None,
     }
 }
 
-/// What the events so far come to.
-#[derive(Clone, Copy)]
-pub struct Sums {
-    pub count: usize,
-    pub waits: u32,
-    pub carries: u32,
-}
-
 #[tactic(auto, unfolding(crate::specs::EventTimes::untimely))]
 fn untimely(ds: &[Declaration], sums: Sums, e: &Event) -> Option<Reason>
-    requires waits { sums.waits ≤ 36000000 }
-    requires carries { sums.carries ≤ 200000 }
     ensures value { result ≡ rows.untimely ds.now sums.count sums.waits sums.carries e.now }
     ensures waits { IfNone result (sums.waits + rows.wait_of e.now ≤ 36000000) }
     ensures carries { IfNone result (sums.carries + rows.carry_of e.now ≤ 200000) }
@@ -113,7 +101,7 @@ fn untimely(ds: &[Declaration], sums: Sums, e: &Event) -> Option<Reason>
     if 20_000 <= sums.count {
         return Some(Reason::Limit);
     }
-    misfit(ds, sums.waits, sums.carries, e)
+    misfit(ds, sums, e)
 }
 
 /// An event after these declarations, and after events with these sums. Updates name their binding numbers, or do not.
@@ -121,19 +109,16 @@ fn untimely(ds: &[Declaration], sums: Sums, e: &Event) -> Option<Reason>
 pub fn event_line(
     alloc: Global,
     numbered: bool,
-    ds: &[Declaration],
+    ds: &FewDeclarations<'_>,
     sums: Sums,
     row: &[&[u8]],
 ) -> Result<Event, LineFault>
-    requires few { AreFew ds.now }
-    requires waits { sums.waits ≤ 36000000 }
-    requires carries { sums.carries ≤ 200000 }
     ensures value { GivesLine (λ e. e) result (rows.timed_line numbered ds.now sums.count sums.waits sums.carries (texts row.now)) }
     ensures waits { IfOk result (λ e. sums.waits + rows.wait_of e ≤ 36000000) }
     ensures carries { IfOk result (λ e. sums.carries + rows.carry_of e ≤ 200000) }
 {
     let e = event_fields(alloc, numbered, ds, row)?;
-    match untimely(ds, sums, &e) {
+    match untimely(ds.as_slice(), sums, &e) {
         None => Ok(e),
         Some(why) => Err(LineFault::Bad(why)),
     }

@@ -4,15 +4,15 @@ ghost use Rattle.std.specs.Prelude.{◌+◌, ◌<◌, ◌≤◌, ◌^◌, [], le
 ghost use Rattle.mip_lines.specs.Cutting.{fields_of, rows_of};
 ghost use Rattle.mip_schedule.specs.EventTimes as rows;
 ghost use Rattle.mip_schedule.specs.Faults.{GivesText};
-ghost use Rattle.mip_symbols.specs.Places.{AreFew};
 ghost use Rattle.mip_schedule.specs.Reading as reading;
 
 use crate::event::Event;
-use crate::event_line::{Sums, carry_of, event_line, wait_of};
+use crate::event_line::{carry_of, event_line, wait_of};
 use crate::events::Events;
 use crate::fault::ScheduleFault;
+use crate::sums::Sums;
 use mip_lines::{cut_at, few_fields};
-use mip_symbols::{Declaration, LineFault, Reason};
+use mip_symbols::{FewDeclarations, LineFault, Reason};
 use std::alloc::Global;
 
 /// The most events for which room is taken at once.
@@ -26,14 +26,11 @@ const SHORT_LINE: usize = 8;
 fn next_event(
     alloc: Global,
     numbered: bool,
-    ds: &[Declaration],
+    ds: &FewDeclarations<'_>,
     sums: Sums,
     line: u32,
     row: &[u8],
 ) -> Result<Event, ScheduleFault>
-    requires few { AreFew ds.now }
-    requires waits { sums.waits ≤ 36000000 }
-    requires carries { sums.carries ≤ 200000 }
     ensures value { GivesText (λ e. e) result (reading.at_line line (rows.timed_line numbered ds.now sums.count sums.waits sums.carries (fields_of row.now))) }
     ensures waits { IfOk result (λ e. sums.waits + rows.wait_of e ≤ 36000000) }
     ensures carries { IfOk result (λ e. sums.carries + rows.carry_of e ≤ 200000) }
@@ -55,11 +52,10 @@ fn next_event(
 pub fn events_from(
     alloc: Global,
     numbered: bool,
-    ds: &[Declaration],
+    ds: &FewDeclarations<'_>,
     first: u32,
     text: &[u8],
 ) -> Result<Events, ScheduleFault>
-    requires few { AreFew ds.now }
     requires short { first + length text.now < 2 ^ 32 }
     ensures { GivesText (λ e. e) result (reading.events_of numbered ds.now [] first (rows_of text.now)) }
 {

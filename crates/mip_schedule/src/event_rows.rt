@@ -5,7 +5,6 @@ ghost use Rattle.mip_lines.specs.Cutting.{texts};
 ghost use Rattle.mip_schedule.specs.EventRows as rows;
 ghost use Rattle.mip_symbols.specs.Faults.{GivesLine};
 ghost use Rattle.mip_symbols.specs.Kinds as kinds;
-ghost use Rattle.mip_symbols.specs.Places.{AreFew};
 
 use crate::event::Event;
 use crate::kept_address::KeptAddress;
@@ -14,12 +13,11 @@ use crate::outsider_rows::{
     bind_row, deaf_row, inject_row, listen_row, probe_row, squat_row, tell_row, yield_row,
 };
 use mip_symbols::kinds::{address, bytes, link, node, some_link, u8_in, u32_in};
-use mip_symbols::{Declaration, LineFault, Reason, Sort};
+use mip_symbols::{FewDeclarations, LineFault, Reason, Sort};
 use std::alloc::Global;
 
 #[tactic(auto, unfolding(crate::specs::EventRows::wait_row))]
-fn wait_row(ds: &[Declaration], fields: &[&[u8]]) -> Result<Event, Reason>
-    requires { AreFew ds.now }
+fn wait_row(ds: &FewDeclarations<'_>, fields: &[&[u8]]) -> Result<Event, Reason>
     ensures { result ≡ rows.wait_row ds.now (texts fields.now) }
 {
     let [time] = fields else {
@@ -31,8 +29,7 @@ fn wait_row(ds: &[Declaration], fields: &[&[u8]]) -> Result<Event, Reason>
 }
 
 #[tactic(auto, unfolding(crate::specs::EventRows::move_row))]
-fn move_row(ds: &[Declaration], fields: &[&[u8]]) -> Result<Event, Reason>
-    requires { AreFew ds.now }
+fn move_row(ds: &FewDeclarations<'_>, fields: &[&[u8]]) -> Result<Event, Reason>
     ensures { result ≡ rows.move_row ds.now (texts fields.now) }
 {
     let [who, on] = fields else {
@@ -45,8 +42,7 @@ fn move_row(ds: &[Declaration], fields: &[&[u8]]) -> Result<Event, Reason>
 }
 
 #[tactic(auto, unfolding(crate::specs::EventRows::advertise_row))]
-fn advertise_row(ds: &[Declaration], fields: &[&[u8]]) -> Result<Event, Reason>
-    requires { AreFew ds.now }
+fn advertise_row(ds: &FewDeclarations<'_>, fields: &[&[u8]]) -> Result<Event, Reason>
     ensures { result ≡ rows.advertise_row ds.now (texts fields.now) }
 {
     let [on] = fields else {
@@ -69,8 +65,7 @@ fn payload_in(alloc: Global, field: &[u8]) -> Result<KeptBytes, LineFault>
 }
 
 #[tactic(auto, unfolding(crate::specs::EventRows::data_row))]
-fn data_row(alloc: Global, ds: &[Declaration], fields: &[&[u8]]) -> Result<Event, LineFault>
-    requires { AreFew ds.now }
+fn data_row(alloc: Global, ds: &FewDeclarations<'_>, fields: &[&[u8]]) -> Result<Event, LineFault>
     ensures { GivesLine (λ e. e) result (rows.data_row ds.now (texts fields.now)) }
 {
     let [who, to, proto, payload] = fields else {
@@ -85,7 +80,7 @@ fn data_row(alloc: Global, ds: &[Declaration], fields: &[&[u8]]) -> Result<Event
 }
 
 #[tactic(auto, unfolding(crate::specs::EventRows::deliver_row))]
-fn deliver_row(_ds: &[Declaration], fields: &[&[u8]]) -> Result<Event, Reason>
+fn deliver_row(_ds: &FewDeclarations<'_>, fields: &[&[u8]]) -> Result<Event, Reason>
     ensures { result ≡ rows.deliver_row _ds.now (texts fields.now) }
 {
     let [packet] = fields else {
@@ -97,7 +92,7 @@ fn deliver_row(_ds: &[Declaration], fields: &[&[u8]]) -> Result<Event, Reason>
 }
 
 #[tactic(auto, unfolding(crate::specs::EventRows::repeat_row))]
-fn repeat_row(_ds: &[Declaration], fields: &[&[u8]]) -> Result<Event, Reason>
+fn repeat_row(_ds: &FewDeclarations<'_>, fields: &[&[u8]]) -> Result<Event, Reason>
     ensures { result ≡ rows.repeat_row _ds.now (texts fields.now) }
 {
     let [packet] = fields else {
@@ -109,7 +104,7 @@ fn repeat_row(_ds: &[Declaration], fields: &[&[u8]]) -> Result<Event, Reason>
 }
 
 #[tactic(auto, unfolding(crate::specs::EventRows::lose_row))]
-fn lose_row(_ds: &[Declaration], fields: &[&[u8]]) -> Result<Event, Reason>
+fn lose_row(_ds: &FewDeclarations<'_>, fields: &[&[u8]]) -> Result<Event, Reason>
     ensures { result ≡ rows.lose_row _ds.now (texts fields.now) }
 {
     let [packet] = fields else {
@@ -121,8 +116,7 @@ fn lose_row(_ds: &[Declaration], fields: &[&[u8]]) -> Result<Event, Reason>
 }
 
 #[tactic(auto, unfolding(crate::specs::EventRows::carry_row))]
-fn carry_row(ds: &[Declaration], fields: &[&[u8]]) -> Result<Event, Reason>
-    requires { AreFew ds.now }
+fn carry_row(ds: &FewDeclarations<'_>, fields: &[&[u8]]) -> Result<Event, Reason>
     ensures { result ≡ rows.carry_row ds.now (texts fields.now) }
 {
     let [packets] = fields else {
@@ -134,8 +128,7 @@ fn carry_row(ds: &[Declaration], fields: &[&[u8]]) -> Result<Event, Reason>
 }
 
 #[tactic(auto, unfolding(crate::specs::EventRows::restart_row))]
-fn restart_row(ds: &[Declaration], fields: &[&[u8]]) -> Result<Event, Reason>
-    requires { AreFew ds.now }
+fn restart_row(ds: &FewDeclarations<'_>, fields: &[&[u8]]) -> Result<Event, Reason>
     ensures { result ≡ rows.restart_row ds.now (texts fields.now) }
 {
     let [who] = fields else {
@@ -147,8 +140,7 @@ fn restart_row(ds: &[Declaration], fields: &[&[u8]]) -> Result<Event, Reason>
 }
 
 #[tactic(auto, unfolding(crate::specs::EventRows::refresh_row))]
-fn refresh_row(ds: &[Declaration], fields: &[&[u8]]) -> Result<Event, Reason>
-    requires { AreFew ds.now }
+fn refresh_row(ds: &FewDeclarations<'_>, fields: &[&[u8]]) -> Result<Event, Reason>
     ensures { result ≡ rows.refresh_row ds.now (texts fields.now) }
 {
     let [who, home] = fields else {
@@ -161,8 +153,7 @@ fn refresh_row(ds: &[Declaration], fields: &[&[u8]]) -> Result<Event, Reason>
 }
 
 #[tactic(auto, unfolding(crate::specs::EventRows::plan_row))]
-fn plan_row(ds: &[Declaration], fields: &[&[u8]]) -> Result<Event, Reason>
-    requires { AreFew ds.now }
+fn plan_row(ds: &FewDeclarations<'_>, fields: &[&[u8]]) -> Result<Event, Reason>
     ensures { result ≡ rows.plan_row ds.now (texts fields.now) }
 {
     let [who, valid, preferred] = fields else {
@@ -176,8 +167,7 @@ fn plan_row(ds: &[Declaration], fields: &[&[u8]]) -> Result<Event, Reason>
 }
 
 #[tactic(auto, unfolding(crate::specs::EventRows::ask_row))]
-fn ask_row(ds: &[Declaration], fields: &[&[u8]]) -> Result<Event, Reason>
-    requires { AreFew ds.now }
+fn ask_row(ds: &FewDeclarations<'_>, fields: &[&[u8]]) -> Result<Event, Reason>
     ensures { result ≡ rows.ask_row ds.now (texts fields.now) }
 {
     let [who] = fields else {
@@ -189,8 +179,7 @@ fn ask_row(ds: &[Declaration], fields: &[&[u8]]) -> Result<Event, Reason>
 }
 
 #[tactic(auto, unfolding(crate::specs::EventRows::show_row))]
-fn show_row(ds: &[Declaration], fields: &[&[u8]]) -> Result<Event, Reason>
-    requires { AreFew ds.now }
+fn show_row(ds: &FewDeclarations<'_>, fields: &[&[u8]]) -> Result<Event, Reason>
     ensures { result ≡ rows.show_row ds.now (texts fields.now) }
 {
     let [who] = fields else {
@@ -202,8 +191,7 @@ fn show_row(ds: &[Declaration], fields: &[&[u8]]) -> Result<Event, Reason>
 }
 
 #[tactic(auto, unfolding(crate::specs::EventRows::settle_row))]
-fn settle_row(ds: &[Declaration], fields: &[&[u8]]) -> Result<Event, Reason>
-    requires { AreFew ds.now }
+fn settle_row(ds: &FewDeclarations<'_>, fields: &[&[u8]]) -> Result<Event, Reason>
     ensures { result ≡ rows.settle_row ds.now (texts fields.now) }
 {
     let [a, b] = fields else {
@@ -219,11 +207,10 @@ fn settle_row(ds: &[Declaration], fields: &[&[u8]]) -> Result<Event, Reason>
 #[tactic(auto, unfolding(crate::specs::EventRows::node_fields))]
 fn node_fields(
     alloc: Global,
-    ds: &[Declaration],
+    ds: &FewDeclarations<'_>,
     word: &[u8],
     fields: &[&[u8]],
 ) -> Result<Event, LineFault>
-    requires { AreFew ds.now }
     ensures { GivesLine (λ e. e) result (rows.node_fields ds.now word.now (texts fields.now)) }
 {
     if word == b"move".as_slice() {
@@ -251,11 +238,10 @@ fn node_fields(
 #[tactic(auto, unfolding(crate::specs::EventRows::packet_fields))]
 fn packet_fields(
     alloc: Global,
-    ds: &[Declaration],
+    ds: &FewDeclarations<'_>,
     word: &[u8],
     fields: &[&[u8]],
 ) -> Result<Event, LineFault>
-    requires { AreFew ds.now }
     ensures { GivesLine (λ e. e) result (rows.packet_fields ds.now word.now (texts fields.now)) }
 {
     if word == b"deliver".as_slice() {
@@ -276,11 +262,10 @@ fn packet_fields(
 fn outsider_fields(
     alloc: Global,
     numbered: bool,
-    ds: &[Declaration],
+    ds: &FewDeclarations<'_>,
     word: &[u8],
     fields: &[&[u8]],
 ) -> Result<Event, LineFault>
-    requires { AreFew ds.now }
     ensures { GivesLine (λ e. e) result (rows.outsider_fields numbered ds.now word.now (texts fields.now)) }
 {
     if word == b"inject".as_slice() {
@@ -309,10 +294,9 @@ fn outsider_fields(
 pub fn event_fields(
     alloc: Global,
     numbered: bool,
-    ds: &[Declaration],
+    ds: &FewDeclarations<'_>,
     row: &[&[u8]],
 ) -> Result<Event, LineFault>
-    requires { AreFew ds.now }
     ensures { GivesLine (λ e. e) result (rows.event_fields numbered ds.now (texts row.now)) }
 {
     let [first, fields @ ..] = row else {

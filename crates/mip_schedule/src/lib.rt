@@ -24,6 +24,7 @@ mod outsider_writing;
 mod parts;
 mod schedule;
 mod schedule_reading;
+mod sums;
 mod update_ends;
 mod versions;
 mod writing;

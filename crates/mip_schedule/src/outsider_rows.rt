@@ -5,7 +5,6 @@ ghost use Rattle.mip_lines.specs.Cutting.{texts};
 ghost use Rattle.mip_schedule.specs.BindParts.{bind_ends, bind_numbers, number_named};
 ghost use Rattle.mip_schedule.specs.EventRows as rows;
 ghost use Rattle.mip_symbols.specs.Faults.{GivesLine};
-ghost use Rattle.mip_symbols.specs.Places.{AreFew};
 
 use crate::event::Event;
 use crate::kept_address::KeptAddress;
@@ -14,13 +13,16 @@ use crate::update_ends::UpdateEnds;
 use mip_symbols::kinds::{
     address, bytes, careof, cookie, link, outsider, some_packet, u8_in, u16_in, u32_in,
 };
-use mip_symbols::{Declaration, LineFault, Reason};
+use mip_symbols::{FewDeclarations, LineFault, Reason};
 use mip_words::LinkId;
 use std::alloc::Global;
 
 #[tactic(auto, unfolding(crate::specs::EventRows::inject_row))]
-pub fn inject_row(alloc: Global, ds: &[Declaration], fields: &[&[u8]]) -> Result<Event, LineFault>
-    requires { AreFew ds.now }
+pub fn inject_row(
+    alloc: Global,
+    ds: &FewDeclarations<'_>,
+    fields: &[&[u8]],
+) -> Result<Event, LineFault>
     ensures { GivesLine (λ e. e) result (rows.inject_row ds.now (texts fields.now)) }
 {
     let [by, on, packet] = fields else {
@@ -34,8 +36,7 @@ pub fn inject_row(alloc: Global, ds: &[Declaration], fields: &[&[u8]]) -> Result
 }
 
 #[tactic(auto, unfolding(crate::specs::EventRows::probe_row))]
-pub fn probe_row(ds: &[Declaration], fields: &[&[u8]]) -> Result<Event, Reason>
-    requires { AreFew ds.now }
+pub fn probe_row(ds: &FewDeclarations<'_>, fields: &[&[u8]]) -> Result<Event, Reason>
     ensures { result ≡ rows.probe_row ds.now (texts fields.now) }
 {
     let [by, on, which, source, peer, cookie_field] = fields else {
@@ -99,8 +100,11 @@ fn bind_numbers(
 }
 
 #[tactic(auto, using(crate::proofs::BindLaws::plain_parts), unfolding(crate::specs::EventRows::plain_bind_row))]
-fn plain_bind_row(alloc: Global, ds: &[Declaration], fields: &[&[u8]]) -> Result<Event, LineFault>
-    requires { AreFew ds.now }
+fn plain_bind_row(
+    alloc: Global,
+    ds: &FewDeclarations<'_>,
+    fields: &[&[u8]],
+) -> Result<Event, LineFault>
     ensures { GivesLine (λ e. e) result (rows.plain_bind_row ds.now (texts fields.now)) }
 {
     let [
@@ -137,10 +141,9 @@ fn plain_bind_row(alloc: Global, ds: &[Declaration], fields: &[&[u8]]) -> Result
 #[tactic(auto, using(crate::proofs::BindLaws::numbered_parts), unfolding(crate::specs::EventRows::numbered_bind_row))]
 fn numbered_bind_row(
     alloc: Global,
-    ds: &[Declaration],
+    ds: &FewDeclarations<'_>,
     fields: &[&[u8]],
 ) -> Result<Event, LineFault>
-    requires { AreFew ds.now }
     ensures { GivesLine (λ e. e) result (rows.numbered_bind_row ds.now (texts fields.now)) }
 {
     let [
@@ -179,10 +182,9 @@ fn numbered_bind_row(
 pub fn bind_row(
     alloc: Global,
     numbered: bool,
-    ds: &[Declaration],
+    ds: &FewDeclarations<'_>,
     fields: &[&[u8]],
 ) -> Result<Event, LineFault>
-    requires { AreFew ds.now }
     ensures { GivesLine (λ e. e) result (rows.bind_row numbered ds.now (texts fields.now)) }
 {
     if numbered {
@@ -193,8 +195,7 @@ pub fn bind_row(
 }
 
 #[tactic(auto, unfolding(crate::specs::EventRows::tell_row))]
-pub fn tell_row(ds: &[Declaration], fields: &[&[u8]]) -> Result<Event, Reason>
-    requires { AreFew ds.now }
+pub fn tell_row(ds: &FewDeclarations<'_>, fields: &[&[u8]]) -> Result<Event, Reason>
     ensures { result ≡ rows.tell_row ds.now (texts fields.now) }
 {
     let [by, on, test, probe] = fields else {
@@ -209,8 +210,7 @@ pub fn tell_row(ds: &[Declaration], fields: &[&[u8]]) -> Result<Event, Reason>
 }
 
 #[tactic(auto, unfolding(crate::specs::EventRows::listen_row))]
-pub fn listen_row(ds: &[Declaration], fields: &[&[u8]]) -> Result<Event, Reason>
-    requires { AreFew ds.now }
+pub fn listen_row(ds: &FewDeclarations<'_>, fields: &[&[u8]]) -> Result<Event, Reason>
     ensures { result ≡ rows.listen_row ds.now (texts fields.now) }
 {
     let [by, on] = fields else {
@@ -223,8 +223,7 @@ pub fn listen_row(ds: &[Declaration], fields: &[&[u8]]) -> Result<Event, Reason>
 }
 
 #[tactic(auto, unfolding(crate::specs::EventRows::deaf_row))]
-pub fn deaf_row(ds: &[Declaration], fields: &[&[u8]]) -> Result<Event, Reason>
-    requires { AreFew ds.now }
+pub fn deaf_row(ds: &FewDeclarations<'_>, fields: &[&[u8]]) -> Result<Event, Reason>
     ensures { result ≡ rows.deaf_row ds.now (texts fields.now) }
 {
     let [by, on] = fields else {
@@ -237,8 +236,7 @@ pub fn deaf_row(ds: &[Declaration], fields: &[&[u8]]) -> Result<Event, Reason>
 }
 
 #[tactic(auto, unfolding(crate::specs::EventRows::squat_row))]
-pub fn squat_row(ds: &[Declaration], fields: &[&[u8]]) -> Result<Event, Reason>
-    requires { AreFew ds.now }
+pub fn squat_row(ds: &FewDeclarations<'_>, fields: &[&[u8]]) -> Result<Event, Reason>
     ensures { result ≡ rows.squat_row ds.now (texts fields.now) }
 {
     let [by, claimed] = fields else {
@@ -251,8 +249,7 @@ pub fn squat_row(ds: &[Declaration], fields: &[&[u8]]) -> Result<Event, Reason>
 }
 
 #[tactic(auto, unfolding(crate::specs::EventRows::yield_row))]
-pub fn yield_row(ds: &[Declaration], fields: &[&[u8]]) -> Result<Event, Reason>
-    requires { AreFew ds.now }
+pub fn yield_row(ds: &FewDeclarations<'_>, fields: &[&[u8]]) -> Result<Event, Reason>
     ensures { result ≡ rows.yield_row ds.now (texts fields.now) }
 {
     let [by, claimed] = fields else {

@@ -4,7 +4,8 @@ ghost use Rattle.mip_schedule.specs.Accepted.{again, is_accepted};
 ghost use Rattle.mip_schedule.specs.Contents.{holding};
 
 use crate::events::Events;
-use mip_symbols::Declarations;
+use crate::laws::few;
+use mip_symbols::{Declarations, FewDeclarations};
 use mip_words::Moment;
 
 /// A schedule: the version of its text, the seed of all secrets, the moment of the start, who there is, and what happens. What it
@@ -23,4 +24,14 @@ pub struct Schedule {
     pub ghost same_declarations: { (again (holding version seed start declarations events)).declarations ≡ declarations } by { Coded-set declarations-code _ _ },
     pub ghost same_events: { (again (holding version seed start declarations events)).events ≡ events } by { Coded-set events-code _ _ },
     pub ghost few_lines: { length declarations + length events + 5 < 2 ^ 32 },
+}
+
+impl Schedule {
+    /// What is declared, which is of few links, nodes and outsiders.
+    pub fn few_declarations(&self) -> FewDeclarations<'_>
+        ensures { result ≡ self.now.declarations }
+    {
+        few(self);
+        FewDeclarations::new(self.declarations.as_slice())
+    }
 }

@@ -13,6 +13,7 @@ use crate::head::read_head;
 use crate::parts::Parts;
 use crate::schedule::Schedule;
 use crate::versions::is_numbered;
+use mip_symbols::FewDeclarations;
 use std::alloc::Global;
 
 #[tactic(auto, unfolding(crate::specs::Reading::reading))]
@@ -25,7 +26,7 @@ fn read_parts(alloc: Global, text: &[u8]) -> Result<Parts, ScheduleFault>
     let events = events_from(
         alloc,
         is_numbered(head.version),
-        declared.declarations.as_slice(),
+        &FewDeclarations::new(declared.declarations.as_slice()),
         declared.line,
         declared.rest,
     )?;

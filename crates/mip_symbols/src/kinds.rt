@@ -2,10 +2,10 @@
 
 ghost use Rattle.std.specs.Prelude.{◌≡◌, ◌<◌, ◌≤◌, IfOk};
 ghost use Rattle.mip_symbols.specs.Faults.{GivesLine};
-ghost use Rattle.mip_symbols.specs.Places.{AreFew};
 ghost use Rattle.mip_symbols.specs.Kinds as kinds;
 
 use crate::declaration::Declaration;
+use crate::few_declarations::FewDeclarations;
 use crate::line_fault::LineFault;
 use crate::name::Name;
 use crate::places::{Sort, is_taken, place_of};
@@ -16,7 +16,7 @@ use std::alloc::Global;
 
 /// A number from `low` to `high`.
 #[tactic(auto, unfolding(crate::specs::Kinds::number))]
-fn number(low: u64, high: u64, field: &[u8]) -> Result<u64, Reason>
+pub fn number(low: u64, high: u64, field: &[u8]) -> Result<u64, Reason>
     ensures value { result ≡ kinds.number low high field.now }
     ensures within { IfOk result (λ n. n ≤ high) }
 {
@@ -127,44 +127,42 @@ pub fn new_name(ds: &[Declaration], field: &[u8]) -> Result<Name, Reason>
 
 /// The place of what is of this sort and has this name.
 #[tactic(auto, unfolding(crate::specs::Kinds::place), using(crate::proofs::PlaceLaws::place_small))]
-fn place(sort: Sort, ds: &[Declaration], field: &[u8]) -> Result<u8, Reason>
-    requires { AreFew ds.now }
-    ensures { result ≡ kinds.place sort ds.now field.now }
+pub fn place(sort: Sort, ds: &FewDeclarations<'_>, field: &[u8]) -> Result<u8, Reason>
+    ensures value { result ≡ kinds.place sort ds.now field.now }
+    ensures small { IfOk result (λ p. p < 32) }
 {
-    let Some(place) = place_of(ds, sort, field) else {
+    ds.few();
+    let Some(place) = place_of(ds.as_slice(), sort, field) else {
         return Err(Reason::Name);
     };
     Ok(place as u8)
 }
 
 #[tactic(auto, unfolding(crate::specs::Kinds::link))]
-pub fn link(ds: &[Declaration], field: &[u8]) -> Result<LinkId, Reason>
-    requires { AreFew ds.now }
+pub fn link(ds: &FewDeclarations<'_>, field: &[u8]) -> Result<LinkId, Reason>
     ensures { result ≡ kinds.link ds.now field.now }
 {
     Ok(LinkId(place(Sort::Link, ds, field)?))
 }
 
 #[tactic(auto, unfolding(crate::specs::Kinds::node))]
-pub fn node(sort: Sort, ds: &[Declaration], field: &[u8]) -> Result<NodeId, Reason>
-    requires { AreFew ds.now }
+pub fn node(sort: Sort, ds: &FewDeclarations<'_>, field: &[u8]) -> Result<NodeId, Reason>
     ensures { result ≡ kinds.node sort ds.now field.now }
 {
     Ok(NodeId(place(sort, ds, field)?))
 }
 
 #[tactic(auto, unfolding(crate::specs::Kinds::outsider))]
-pub fn outsider(ds: &[Declaration], field: &[u8]) -> Result<u8, Reason>
-    requires { AreFew ds.now }
-    ensures { result ≡ kinds.outsider ds.now field.now }
+pub fn outsider(ds: &FewDeclarations<'_>, field: &[u8]) -> Result<u8, Reason>
+    ensures value { result ≡ kinds.outsider ds.now field.now }
+    ensures small { IfOk result (λ o. o < 32) }
 {
     place(Sort::Outsider, ds, field)
 }
 
 /// A link, or none.
 #[tactic(auto, unfolding(crate::specs::Kinds::some_link))]
-pub fn some_link(ds: &[Declaration], field: &[u8]) -> Result<Option<LinkId>, Reason>
-    requires { AreFew ds.now }
+pub fn some_link(ds: &FewDeclarations<'_>, field: &[u8]) -> Result<Option<LinkId>, Reason>
     ensures { result ≡ kinds.some_link ds.now field.now }
 {
     if field == b"-".as_slice() {
@@ -176,8 +174,7 @@ pub fn some_link(ds: &[Declaration], field: &[u8]) -> Result<Option<LinkId>, Rea
 
 /// An agent, or one to be found.
 #[tactic(auto, unfolding(crate::specs::Kinds::some_agent))]
-pub fn some_agent(ds: &[Declaration], field: &[u8]) -> Result<Option<NodeId>, Reason>
-    requires { AreFew ds.now }
+pub fn some_agent(ds: &FewDeclarations<'_>, field: &[u8]) -> Result<Option<NodeId>, Reason>
     ensures { result ≡ kinds.some_agent ds.now field.now }
 {
     if field == b"find".as_slice() {

@@ -3,6 +3,7 @@
 
 mod declaration;
 mod declarations;
+mod few_declarations;
 pub mod kinds;
 mod line_fault;
 mod name;
@@ -12,6 +13,7 @@ mod reason;
 
 pub use declaration::Declaration;
 pub use declarations::Declarations;
+pub use few_declarations::FewDeclarations;
 pub use line_fault::LineFault;
 pub use name::Name;
 pub use numbered::{link_name, node_name, outsider_name};

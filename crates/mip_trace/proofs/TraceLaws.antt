@@ -11,6 +11,8 @@ use Rattle.mip_lines.specs.Cutting.{rows_of}
 use Rattle.mip_lines.specs.Lines.{lines_text}
 use Rattle.mip_lines.specs.LinesLaws.{is_row}
 use Rattle.mip_lines.proofs.LineLaws.{text-spelled, text-again}
+use Rattle.mip_lines.proofs.TextRows.{end_row, some_row}
+use Rattle.mip_schedule.proofs.TextLaws.{one_more}
 use Rattle.mip_symbols.specs.Places.{AreFew, NamesFound}
 use Rattle.mip_symbols.specs.declared.declaration.Declaration.{Declaration}
 use Rattle.mip_entries.specs.declared.entry.Entry.{Entry}
@@ -20,10 +22,6 @@ use Rattle.mip_trace.specs.Ranges.{IsOf, IsLineOf, BeginsBad, IsTraceOf, IsFirst
 use Rattle.mip_trace.specs.Reading.{at_line, last_row, entries_of, reading}
 use Rattle.mip_symbols.specs.declared.reason.Reason.{Reason}
 use Rattle.mip_trace.proofs.EntryAgain.{entry-read, entry-again, entry-plain}
-use Rattle.mip_trace.proofs.Walking.{some_row}
-
-abbrev end_row : List (List ℕ)
-end_row = [] ∷ []
 
 at_line_ok : {A : Type 0} (n : ℕ) (r : Result A Reason) (x : A) → at_line n r ≡ Ok x → r ≡ Ok x
 at_line_ok n (Ok y) x e = ap (λ z. Ok z) (ok_is y x e)
@@ -41,9 +39,6 @@ last-read ds n es [] out e = absurd cc
 last-read ds n es ([] ∷ []) out e = record { news = []; whole = sym (ok_is es out e) ∙ sym (append-nil es); spelled = refl; within = tt }
 last-read ds n es ([] ∷ f ∷ fs) out e = absurd cc
 last-read ds n es ((c ∷ cs) ∷ fs) out e = absurd cc
-
-one_more : {A : Type 0} (xs : List A) (x : A) (ys out : List A) → out ≡ (xs ++ x ∷ []) ++ ys → out ≡ xs ++ x ∷ ys
-one_more xs x ys out e = e ∙ append_assoc xs (x ∷ []) ys
 
 entries-read : (ds : List Declaration) → AreFew ds → (rows : List (List (List ℕ))) (es : List Entry) (n : ℕ) (out : List Entry) → entries_of ds es n rows ≡ Ok out → AreRead ds es rows out
 unfolding entries_of

@@ -1,11 +1,10 @@
 -- Over the lines of a trace, one after another.
-use Rattle.std.proofs.Common.{◌≡◌, ℕ, ◌+◌, ◌<◌, List, [], ◌∷◌, ◌++◌, length, Bool, true, false, cond, refl, sym, ap, ◌∙◌, subst, arith}
+use Rattle.std.proofs.Common.{◌≡◌, ℕ, ◌+◌, ◌<◌, List, [], ◌∷◌, ◌++◌, length, true, refl, sym, ap, ◌∙◌, subst, arith}
 use Rattle.std.specs.Prelude.{Result, Ok, Err, map, ◌==◌}
-use Rattle.std.specs.List.{slice_split, onto_first}
-use Rattle.std.proofs.lemmas.Bool.{eqb-true, eqb-false}
-use Rattle.std.proofs.lemmas.List.Splits.{length-slice_split}
+use Rattle.std.proofs.lemmas.Bool.{eqb-true}
 use Rattle.mip_words.specs.Steps.{◌>>=◌}
 use Rattle.mip_lines.specs.Cutting.{parts, fields_of, rows_of}
+use Rattle.mip_lines.proofs.TextRows.{some_row, full_line}
 use Rattle.mip_symbols.specs.declared.declaration.Declaration.{Declaration}
 use Rattle.mip_entries.specs.declared.entry.Entry.{Entry}
 use Rattle.mip_symbols.specs.declared.reason.Reason.TheVariants as reasons
@@ -15,20 +14,6 @@ use Rattle.mip_trace.specs.Faults.{GivesText}
 use Rattle.mip_trace.specs.Reading.{at_line, last_row, entries_of}
 use Rattle.mip_trace.specs.declared.fault.TraceFault.{TraceFault}
 use Rattle.mip_trace.specs.declared.fault.TraceFault.TheVariants as faults
-
-shape : {X : Type 0} (xs : List X) → 0 < length xs → (first : X) × (rest : List X) × (xs ≡ first ∷ rest)
-shape [] some = absurd (omega arith)
-shape (x ∷ xs) some = (x, xs, refl)
-
-some_part : (c : ℕ) (bytes : List ℕ) → (first : List ℕ) × (rest : List (List ℕ)) × (parts c bytes ≡ first ∷ rest)
-unfolding parts
-some_part c bytes = shape (slice_split (λ b. b == c) bytes) (omega (arith, length-slice_split (λ b. b == c) bytes))
-
--- a text has one row or more
-pub some_row : (text : List ℕ) → (row : List (List ℕ)) × (rows : List (List (List ℕ))) × (rows_of text ≡ row ∷ rows)
-some_row text =
-    let p = some_part 10 text in
-    (fields_of p.0, map fields_of p.1, ap (map fields_of) p.2)
 
 pub entries_step : (ds : List Declaration) (es : List Entry) (n : ℕ) (text row more : List ℕ) (whole : Result (List Entry) ℕ) → parts 10 text ≡ row ∷ parts 10 more
     → entries_of ds es n (rows_of text) ≡ whole → whole ≡ (at_line n (entry_of ds (fields_of row)) >>= (λ e. entries_of ds (es ++ e ∷ []) (n + 1) (rows_of more)))
@@ -51,18 +36,7 @@ last_empty n es (c ∷ text) none = absurd (omega arith)
 
 -- something behind the last line end
 pub last_full : (n : ℕ) (es : List Entry) (text : List ℕ) → 0 < length text → last_row n es (fields_of text) ≡ Err n
-unfolding parts
-last_full n es [] some = absurd (omega arith)
-last_full n es (c ∷ text) some =
-    let p = some_part 32 text in
-    subst (λ (rest : List (List ℕ)). last_row n es (cond (c == 32) ([] ∷ rest) (onto_first c rest)) ≡ Err n) (sym p.2) (by (c == 32) p.0 p.1)
-  where
-    by : (b : Bool) (first : List ℕ) (rest : List (List ℕ)) → last_row n es (cond b ([] ∷ first ∷ rest) (onto_first c (first ∷ rest))) ≡ Err n
-    by true first rest = refl
-    by false first rest = refl
-
-pub not_zero : (n : ℕ) → (n == 0) ≡ false → 0 < n
-not_zero n e = grind (arith, eqb-false)
+last_full n es text some = full_line (last_row n es) (Err n) (λ c field fields. refl) (λ field fields. refl) text some
 
 -- an empty line is that of no entry
 pub no_entry : (ds : List Declaration) (line : List ℕ) → length line ≡ 0 → entry_of ds (fields_of line) ≡ Err reasons.Form

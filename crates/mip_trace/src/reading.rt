@@ -3,7 +3,6 @@
 ghost use Rattle.std.specs.Prelude.{◌<◌, ◌^◌, List, length, Ok, IfOk};
 ghost use Rattle.mip_lines.specs.Cutting.{fields_of, rows_of};
 ghost use Rattle.mip_entries.specs.declared.entry.Entry.{Entry as Happened};
-ghost use Rattle.mip_symbols.specs.Places.{AreFew};
 ghost use Rattle.mip_trace.specs.EntryReading.{entry_of};
 ghost use Rattle.mip_trace.specs.Faults.{GivesText, OnBad};
 ghost use Rattle.mip_trace.specs.Ranges.{IsTraceOf, IsFirstBad};
@@ -14,13 +13,18 @@ use crate::fault::TraceFault;
 use mip_entries::{Entry, History};
 use mip_lines::cut_at;
 use mip_rows::RowFault;
-use mip_schedule::{Declaration, Schedule, few, names_found};
+use mip_schedule::{Schedule, few, names_found};
+use mip_symbols::FewDeclarations;
 use std::alloc::Global;
 
 /// The entry of the line with this number.
-#[tactic(auto, using(crate::proofs::Walking::no_entry_at, crate::proofs::Walking::not_zero))]
-fn next_entry(alloc: Global, ds: &[Declaration], line: u32, row: &[u8]) -> Result<Entry, TraceFault>
-    requires { AreFew ds.now }
+#[tactic(auto, using(crate::proofs::Walking::no_entry_at, mip_lines::proofs::TextRows::not_zero))]
+fn next_entry(
+    alloc: Global,
+    ds: &FewDeclarations<'_>,
+    line: u32,
+    row: &[u8],
+) -> Result<Entry, TraceFault>
     ensures value { GivesText result (at_line line (entry_of ds.now (fields_of row.now))) }
     ensures some { IfOk result (λ e. 0 < length row.now) }
 {
@@ -35,8 +39,7 @@ fn next_entry(alloc: Global, ds: &[Declaration], line: u32, row: &[u8]) -> Resul
 }
 
 #[tactic(auto, unfolding(crate::specs::Reading::reading))]
-fn entries(alloc: Global, ds: &[Declaration], text: &[u8]) -> Result<History, TraceFault>
-    requires few { AreFew ds.now }
+fn entries(alloc: Global, ds: &FewDeclarations<'_>, text: &[u8]) -> Result<History, TraceFault>
     requires short { length text.now < 2 ^ 32 }
     ensures { GivesText result (reading ds.now text.now) }
 {
@@ -75,5 +78,5 @@ pub fn read_trace(alloc: Global, schedule: &Schedule, text: &[u8]) -> Result<His
 {
     few(schedule);
     names_found(schedule);
-    entries(alloc, schedule.declarations.as_slice(), text)
+    entries(alloc, &schedule.few_declarations(), text)
 }

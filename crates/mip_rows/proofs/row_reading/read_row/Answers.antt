@@ -21,8 +21,8 @@ is_read : (ds : List Declaration) → AreFew ds → NamesFound ds → (ks : List
 is_read ds few found ks t fs x is = ap (row_of ds ks t) is.0 ∙ row-again ds few found ks t x.values x.bytes is.1.0 is.1.1
 
 pub returns-clause-found : goal.returns-clause-found
-returns-clause-found c = is_found c.args.ds.now c.requires.few c.args.kinds.now c.args.tail (texts c.args.row.now) c.row_of.result c.row_of.ensures
+returns-clause-found c = is_found c.args.ds.now c.few.ensures c.args.form.kinds.now c.args.form.tail (texts c.args.row.now) c.row_of.result c.row_of.ensures
 
 pub returns-clause-only : goal.returns-clause-only
 returns-clause-only c = λ x found is.
-    subst (λ (r : Result Row Reason). GivesRow c.row_of.result r) (is_read c.args.ds.now c.requires.few found c.args.kinds.now c.args.tail (texts c.args.row.now) x is) c.row_of.ensures
+    subst (λ (r : Result Row Reason). GivesRow c.row_of.result r) (is_read c.args.ds.now c.few.ensures found c.args.form.kinds.now c.args.form.tail (texts c.args.row.now) x is) c.row_of.ensures

@@ -1,9 +1,10 @@
 use Rattle.std.proofs.Common.{◌+◌, [], ◌∷◌, ◌++◌, length, ◌∙◌, sym, ap, refl, arith}
 use Rattle.std.proofs.lemmas.Bool.{eqb-true}
 use Rattle.mip_lines.specs.Cutting.{fields_of, rows_of}
+use Rattle.mip_lines.proofs.TextRows.{not_zero}
 use Rattle.mip_schedule.specs.EventTimes.{timed_line, waited, carried}
 use Rattle.mip_schedule.specs.Reading.{at_line, events_of}
-use Rattle.mip_schedule.proofs.Walking.{timed_step, events_end, last_empty, last_full, gives_fault, goes_on, waited_more, carried_more, none_waited, none_carried, not_zero}
+use Rattle.mip_schedule.proofs.Walking.{timed_step, events_end, last_empty, last_full, gives_fault, goes_on, waited_more, carried_more, none_waited, none_carried}
 use Rattle.mip_schedule.proofs.event_lines.events_from.Goals as goal
 
 pub loop-row-init : goal.loop-row-init

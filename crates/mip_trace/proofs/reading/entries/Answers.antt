@@ -3,7 +3,8 @@ use Rattle.std.proofs.lemmas.Bool.{eqb-true}
 use Rattle.mip_lines.specs.Cutting.{fields_of, rows_of}
 use Rattle.mip_trace.specs.EntryReading.{entry_of}
 use Rattle.mip_trace.specs.Reading.{at_line, entries_of, reading}
-use Rattle.mip_trace.proofs.Walking.{entries_step, entries_end, last_empty, last_full, not_zero, gives_fault, goes_on}
+use Rattle.mip_lines.proofs.TextRows.{not_zero}
+use Rattle.mip_trace.proofs.Walking.{entries_step, entries_end, last_empty, last_full, gives_fault, goes_on}
 use Rattle.mip_trace.proofs.reading.entries.Goals as goal
 
 pub loop-row-init : goal.loop-row-init

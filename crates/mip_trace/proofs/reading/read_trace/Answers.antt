@@ -28,14 +28,14 @@ given ds found text r same e = subst (λ (l : List Declaration). GivesText r (re
 pub returns-clause-found : goal.returns-clause-found
 returns-clause-found c =
     is_found c.args.schedule.now.declarations c.few.ensures c.args.text.now c.entries.result
-    (given c.args.schedule.now.declarations c.as_slice.result.now c.args.text.now c.entries.result c.as_slice.ensures c.entries.ensures)
+    (given c.args.schedule.now.declarations c.few_declarations.result c.args.text.now c.entries.result c.few_declarations.ensures c.entries.ensures)
 
 pub returns-clause-only : goal.returns-clause-only
 returns-clause-only c = λ history is.
     subst (λ (r : Result (List Entry) ℕ). GivesText c.entries.result r) (trace-again c.args.schedule.now.declarations c.few.ensures c.names_found.ensures history c.args.text.now is)
-    (given c.args.schedule.now.declarations c.as_slice.result.now c.args.text.now c.entries.result c.as_slice.ensures c.entries.ensures)
+    (given c.args.schedule.now.declarations c.few_declarations.result c.args.text.now c.entries.result c.few_declarations.ensures c.entries.ensures)
 
 pub returns-clause-bad : goal.returns-clause-bad
 returns-clause-bad c =
     is_bad c.args.schedule.now.declarations c.few.ensures c.names_found.ensures c.args.text.now c.entries.result
-    (given c.args.schedule.now.declarations c.as_slice.result.now c.args.text.now c.entries.result c.as_slice.ensures c.entries.ensures)
+    (given c.args.schedule.now.declarations c.few_declarations.result c.args.text.now c.entries.result c.few_declarations.ensures c.entries.ensures)

@@ -1,6 +1,6 @@
 use Rattle.std.proofs.Common.{◌+◌, true, sym, ap, ◌∙◌}
 use Rattle.std.specs.Prelude.{◌==◌, if◌then◌else◌}
-use Rattle.mip_afresh_marks.specs.declared.lives.Known.{Known}
+use Rattle.mip_provenance.specs.declared.known.Known.{Known}
 use Rattle.mip_afresh_marks.specs.declared.sight.Sight.{Sight}
 use Rattle.mip_afresh_marks.specs.Sighting.{sight_seen}
 use Rattle.mip_afresh_marks.specs.Searches.{known_at, known_step}
