@@ -1,5 +1,5 @@
 -- What the calls on a handle tell, and what they make of it: 11 where it is closed, and else what its station tells.
-use Rattle.std.specs.Prelude.{◌≡◌, ◌⊎◌, ℕ, List, slice_get, Bool, true, false, ◌&&◌, Option, Some, None, IsSomeAnd}
+use Rattle.std.specs.Prelude.{◌≡◌, ◌⊎◌, ℕ, List, Bool, true, false, ◌&&◌, Option, Some, None, IsSomeAnd}
 use Rattle.mip_words.specs.declared.address.Address.{Address}
 use Rattle.mip_rules_agent.specs.declared.identity.Identity.{Identity}
 use Rattle.mip_rules_agent.specs.Calls.{Call}
@@ -9,7 +9,7 @@ use Rattle.mip_c_words.specs.Giving.{Keeps}
 use Rattle.mip_c_agent.specs.declared.registration_fields.RegistrationFields.{RegistrationFields}
 use Rattle.mip_c_agent.specs.Keeping.{Kept}
 use Rattle.mip_c_agent.specs.Sixteens.{are_addresses, addresses_in, are_served}
-use Rattle.mip_c_agent.specs.Stations.{Answers, Hears, TellsNext, TellsCareof, TellsRow, TellsDue, IsFresh}
+use Rattle.mip_c_agent.specs.Stations.{Answers, Hears, TellsNextOf, TellsCareof, TellsRow, TellsDue, IsFresh}
 
 -- a call is asked for; `fit` says whether it can be
 abbrev pub AnswersAt : Bool → Option Kept → Option Kept → ℕ → Call → ℕ → Type 0
@@ -24,7 +24,7 @@ abbrev pub NextAt : Option Kept → Option Kept → ℕ → AnswerFields → Ans
 NextAt None after status fields_old fields_new old new size_old size_new =
     (status ≡ 11) × (after ≡ None) × (fields_new ≡ fields_old) × Keeps old new size_old size_new
 NextAt (Some s) after status fields_old fields_new old new size_old size_new =
-    IsSomeAnd after (λ t. TellsNext (slice_get s.answers s.given) s t status fields_old fields_new old new size_old size_new)
+    IsSomeAnd after (λ t. TellsNextOf s t status fields_old fields_new old new size_old size_new)
 
 -- the care-of address of a home is asked for
 abbrev pub CareofAt : Option Kept → ℕ → Address → ℕ → List ℕ → List ℕ → Type 0

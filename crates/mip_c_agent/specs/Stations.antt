@@ -9,9 +9,8 @@ use Rattle.mip_rules_agent.specs.Questions.{fresh, careof_at, rows_at}
 use Rattle.mip_rules_agent.specs.Seen.{transition_at, called}
 use Rattle.mip_rules_agent.specs.Steps.{answers_of}
 use Rattle.mip_c_words.specs.declared.answer_fields.AnswerFields.{AnswerFields}
-use Rattle.mip_c_words.specs.Answered.{fields_of, bytes_of}
 use Rattle.mip_c_words.specs.Calls.{Does, TellsIf}
-use Rattle.mip_c_words.specs.Giving.{Keeps, Tells, given_after}
+use Rattle.mip_c_words.specs.Outboxes.{IsFilled, TellsNext}
 use Rattle.mip_c_words.specs.Moments.{is_late}
 use Rattle.mip_c_agent.specs.declared.registration_fields.RegistrationFields.{RegistrationFields}
 use Rattle.mip_c_agent.specs.declared.station.Station.{Station}
@@ -20,7 +19,7 @@ use Rattle.mip_c_agent.specs.Registrations.{fields_of as registration_fields_of}
 -- a call was answered: the agent is what the call makes of it, and these are its answers
 abbrev pub IsAnswered : Station → Station → ℕ → Call → List Answer → Type 0
 IsAnswered s t now call answers =
-    (t.node ≡ called s.node now call) × (t.answers ≡ answers) × (t.given ≡ 0) × (t.last.0 ≡ now)
+    (t.node ≡ called s.node now call) × IsFilled t.outbox answers × (t.last.0 ≡ now)
 
 -- with the answers of the call
 abbrev pub Answers : Bool → Station → Station → ℕ → Call → ℕ → Type 0
@@ -31,17 +30,11 @@ Answers fit s t now call status =
 abbrev pub Hears : Station → Station → ℕ → Call → ℕ → Type 0
 Hears s t now call status = Does (is_late s.last.0 now) true s t status (IsAnswered s t now call [])
 
--- the same station, but for how many answers were fetched
-abbrev pub HasGiven : Station → Station → ℕ → Type 0
-HasGiven s t given = (t.node ≡ s.node) × (t.last ≡ s.last) × (t.answers ≡ s.answers) × (t.given ≡ given)
-
--- the next answer is told, or that none is left
-abbrev pub TellsNext : Option Answer → Station → Station → ℕ → AnswerFields → AnswerFields → List ℕ → List ℕ → ℕ → ℕ → Type 0
-TellsNext None s t status fields_old fields_new old new size_old size_new =
-    (status ≡ 15) × (t ≡ s) × (fields_new ≡ fields_old) × Keeps old new size_old size_new
-TellsNext (Some a) s t status fields_old fields_new old new size_old size_new =
-    (fields_new ≡ fields_of a) × Tells 0 (bytes_of a) status old new size_new
-    × HasGiven s t (given_after (bytes_of a) old s.given)
+-- the next answer is told, or that none is left; the rest stays
+abbrev pub TellsNextOf : Station → Station → ℕ → AnswerFields → AnswerFields → List ℕ → List ℕ → ℕ → ℕ → Type 0
+TellsNextOf s t status fields_old fields_new old new size_old size_new =
+    TellsNext (slice_get s.outbox.answers s.outbox.given) s.outbox t.outbox status fields_old fields_new old new size_old size_new
+    × (t.node ≡ s.node) × (t.last ≡ s.last)
 
 -- the care-of address that is registered for a home is told
 abbrev pub TellsCareof : Station → ℕ → Address → ℕ → List ℕ → List ℕ → Type 0
@@ -60,4 +53,4 @@ TellsDue s status old new = TellsIf false (option_map (λ e. e.end.0) (slice_get
 -- a station that begins: an agent of this identity, which serves these homes and was asked for nothing yet
 abbrev pub IsFresh : Identity → List Address → Station → Type 0
 IsFresh identity serves s =
-    (s.node ≡ record { identity = identity; known = fresh serves }) × (s.last.0 ≡ 0) × (s.answers ≡ []) × (s.given ≡ 0)
+    (s.node ≡ record { identity = identity; known = fresh serves }) × (s.last.0 ≡ 0) × IsFilled s.outbox []

@@ -18,6 +18,7 @@ use crate::sixteens::{addresses_in, are_addresses, are_served};
 use crate::station::Station;
 use mip_c_words::addresses::address_of;
 use mip_c_words::answer_fields::AnswerFields;
+use mip_c_words::outbox::Outbox;
 use mip_c_words::status::{ALREADY_OPEN, ARGUMENT, CLOSED, MEMORY, OK};
 use mip_entries::Answers;
 use mip_homeagent::HomeAgent;
@@ -47,8 +48,7 @@ fn fresh_station(
     let station = Station {
         node,
         last: Moment(0),
-        answers,
-        given: 0,
+        outbox: Outbox::of(answers),
     };
     Ok(Box::new(alloc, station)?)
 }

@@ -1,16 +1,14 @@
 ghost use Rattle.std.specs.Prelude.{◌≡◌};
 
-use mip_entries::Answers;
+use mip_c_words::outbox::Outbox;
 use mip_homeagent::HomeAgent;
 use mip_words::Moment;
 
-/// A home agent that C holds: the node, the moment of its last call, and the answers of that call with how many of them were
-/// fetched.
+/// A home agent that C holds: the node, the moment of its last call, and the answers of that call.
 #[derive(Drop)]
 pub struct Station {
     pub node: HomeAgent,
     pub last: Moment,
-    pub answers: Answers,
-    pub given: usize,
+    pub outbox: Outbox,
     pub ghost tied: { node.known.last ≡ last.0 },
 }

@@ -1,12 +1,12 @@
 //! What a home agent that C holds does about each call.
 
-ghost use Rattle.std.specs.Prelude.{◌≡◌, slice_get, true};
+ghost use Rattle.std.specs.Prelude.{◌≡◌, true};
 ghost use Rattle.mip_rules_agent.specs.Calls as calls;
 ghost use Rattle.mip_rules_agent.specs.Calls.{claim_for};
 ghost use Rattle.mip_c_agent.specs.Neighbourhoods.{around_of};
 ghost use Rattle.mip_c_agent.specs.Shields.{shield_of};
 ghost use Rattle.mip_c_agent.specs.Sixteens.{are_addresses};
-ghost use Rattle.mip_c_agent.specs.Stations.{Answers as AnswersCall, Hears, TellsNext, TellsCareof, TellsRow, TellsDue};
+ghost use Rattle.mip_c_agent.specs.Stations.{Answers as AnswersCall, Hears, TellsNextOf, TellsCareof, TellsRow, TellsDue};
 
 use crate::neighbourhood::Neighbourhood;
 use crate::registration_fields;
@@ -14,9 +14,9 @@ use crate::registration_fields::RegistrationFields;
 use crate::shield_fields::{ShieldFields, shield_of};
 use crate::sixteens::are_addresses;
 use crate::station::Station;
-use mip_c_words::answer_fields::{AnswerFields, bytes_of, fields_of};
-use mip_c_words::giving::tell;
+use mip_c_words::answer_fields::AnswerFields;
 use mip_c_words::moments::is_late;
+use mip_c_words::outbox::Outbox;
 use mip_c_words::status::{ARGUMENT, LATE, MEMORY, NONE, OK};
 use mip_entries::Answers;
 use mip_words::{Address, Memory, Moment};
@@ -51,8 +51,7 @@ impl Station {
         {
             Ok(answers) => {
                 self.last = now;
-                self.answers = answers;
-                self.given = 0;
+                self.outbox = Outbox::of(answers);
                 OK
             }
             Err(Memory) => MEMORY,
@@ -70,8 +69,7 @@ impl Station {
         match self.node.tick(alloc, &mut place, now) {
             Ok(answers) => {
                 self.last = now;
-                self.answers = answers;
-                self.given = 0;
+                self.outbox = Outbox::of(answers);
                 OK
             }
             Err(Memory) => MEMORY,
@@ -88,8 +86,7 @@ impl Station {
         match self.node.plan(alloc, now, valid, preferred) {
             Ok(answers) => {
                 self.last = now;
-                self.answers = answers;
-                self.given = 0;
+                self.outbox = Outbox::of(answers);
                 OK
             }
             Err(Memory) => MEMORY,
@@ -114,8 +111,7 @@ impl Station {
             Ok(answers) => match self.node.heard(now, agent, preference, life) {
                 Ok(()) => {
                     self.last = now;
-                    self.answers = answers;
-                    self.given = 0;
+                    self.outbox = Outbox::of(answers);
                     OK
                 }
                 Err(Memory) => MEMORY,
@@ -125,24 +121,10 @@ impl Station {
     }
 
     /// Tells the next answer of the last call.
-    #[tactic(auto, using(std::proofs::lemmas::Option::slice_get_past))]
     pub fn next(&mut self, fields: &mut AnswerFields, bytes: &mut [u8], size: &mut usize) -> u32
-        ensures { TellsNext (slice_get self.old.answers self.old.given) self.old self.new result fields.old fields.new bytes.old bytes.new size.old size.new }
+        ensures { TellsNextOf self.old self.new result fields.old fields.new bytes.old bytes.new size.old size.new }
     {
-        if self.given >= self.answers.len() {
-            return NONE;
-        }
-        match self.answers.at(self.given) {
-            Some(answer) => {
-                *fields = fields_of(answer);
-                let status = tell(OK, bytes_of(answer), bytes, size);
-                if status == OK {
-                    self.given += 1;
-                }
-                status
-            }
-            None => NONE,
-        }
+        self.outbox.next(fields, bytes, size)
     }
 
     /// Tells the care-of address that is registered for a home.

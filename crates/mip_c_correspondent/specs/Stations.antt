@@ -15,9 +15,8 @@ use Rattle.mip_rules_correspondent.specs.Steps.{answers_of}
 use Rattle.mip_c_words.specs.declared.answer_fields.AnswerFields.{AnswerFields}
 use Rattle.mip_c_correspondent.specs.declared.row_fields.RowFields.{RowFields}
 use Rattle.mip_c_correspondent.specs.declared.station.Station.{Station}
-use Rattle.mip_c_words.specs.Answered.{fields_of, bytes_of}
 use Rattle.mip_c_words.specs.Calls.{Does, TellsIf}
-use Rattle.mip_c_words.specs.Giving.{Keeps, Tells, given_after}
+use Rattle.mip_c_words.specs.Outboxes.{IsFilled, TellsNext}
 use Rattle.mip_c_words.specs.Moments.{is_late}
 use Rattle.mip_c_correspondent.specs.Rows.{fields_of as row_fields_of}
 
@@ -28,7 +27,7 @@ is_sendable proto payload = is_data proto && not (names_no_body proto) && not (n
 -- a call was answered: the node is what the call makes of it, and its answers are those of the call
 abbrev pub IsAnswered : Station → Station → ℕ → Call → Type 0
 IsAnswered s t now call =
-    (t.node ≡ called s.node now call) × (t.answers ≡ answers_of (transition_at s.node now call).steps) × (t.given ≡ 0)
+    (t.node ≡ called s.node now call) × IsFilled t.outbox (answers_of (transition_at s.node now call).steps)
     × (t.last.0 ≡ now)
 
 abbrev pub Answers : Bool → Station → Station → ℕ → Call → ℕ → Type 0
@@ -37,19 +36,13 @@ Answers fit s t now call status = Does (is_late s.last.0 now) fit s t status (Is
 -- time goes on: no answer is left
 abbrev pub Ticks : Station → Station → ℕ → ℕ → Type 0
 Ticks s t now status = Does (is_late s.last.0 now) true s t status
-    ((t.node ≡ called s.node now Tick) × (t.answers ≡ []) × (t.given ≡ 0) × (t.last.0 ≡ now))
+    ((t.node ≡ called s.node now Tick) × IsFilled t.outbox [] × (t.last.0 ≡ now))
 
--- the same station, but for how many answers were fetched
-abbrev pub HasGiven : Station → Station → ℕ → Type 0
-HasGiven s t given = (t.node ≡ s.node) × (t.last ≡ s.last) × (t.answers ≡ s.answers) × (t.given ≡ given)
-
--- the next answer is told, or that none is left
-abbrev pub TellsNext : Option Answer → Station → Station → ℕ → AnswerFields → AnswerFields → List ℕ → List ℕ → ℕ → ℕ → Type 0
-TellsNext None s t status fields_old fields_new old new size_old size_new =
-    (status ≡ 15) × (t ≡ s) × (fields_new ≡ fields_old) × Keeps old new size_old size_new
-TellsNext (Some a) s t status fields_old fields_new old new size_old size_new =
-    (fields_new ≡ fields_of a) × Tells 0 (bytes_of a) status old new size_new
-    × HasGiven s t (given_after (bytes_of a) old s.given)
+-- the next answer is told, or that none is left; the rest stays
+abbrev pub TellsNextOf : Station → Station → ℕ → AnswerFields → AnswerFields → List ℕ → List ℕ → ℕ → ℕ → Type 0
+TellsNextOf s t status fields_old fields_new old new size_old size_new =
+    TellsNext (slice_get s.outbox.answers s.outbox.given) s.outbox t.outbox status fields_old fields_new old new size_old size_new
+    × (t.node ≡ s.node) × (t.last ≡ s.last)
 
 -- the care-of address that is held for a home is told
 abbrev pub TellsRoute : Station → ℕ → Address → ℕ → List ℕ → List ℕ → Type 0
@@ -65,7 +58,7 @@ TellsRow s now place status old new =
 abbrev pub IsFresh : Address → Life → ℕ → ℕ → Station → Type 0
 IsFresh own secrets room numbers s =
     (s.node ≡ record { identity = record { own = own; secrets = secrets; room = room }; known = fresh room numbers })
-    × (s.last.0 ≡ 0) × (s.answers ≡ []) × (s.given ≡ 0)
+    × (s.last.0 ≡ 0) × IsFilled s.outbox []
 
 -- numbers of bindings and of homes that a node can have
 abbrev pub has_room : ℕ → ℕ → Bool

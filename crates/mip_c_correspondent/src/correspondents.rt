@@ -12,6 +12,7 @@ use crate::row_fields::RowFields;
 use crate::station::Station;
 use mip_c_words::addresses::address_of;
 use mip_c_words::answer_fields::AnswerFields;
+use mip_c_words::outbox::Outbox;
 use mip_c_words::status::{ALREADY_OPEN, ARGUMENT, CLOSED, MEMORY, OK};
 use mip_correspondent::Correspondent;
 use mip_entries::Answers;
@@ -41,8 +42,7 @@ fn fresh_station(
     Ok(Station {
         node,
         last: Moment(0),
-        answers,
-        given: 0,
+        outbox: Outbox::of(answers),
     })
 }
 

@@ -1,16 +1,14 @@
 ghost use Rattle.std.specs.Prelude.{◌≡◌};
 
+use mip_c_words::outbox::Outbox;
 use mip_correspondent::Correspondent;
-use mip_entries::Answers;
 use mip_words::Moment;
 
-/// A correspondent that C holds: the node, the moment of its last call, and the answers of that call with how many of them
-/// were fetched.
+/// A correspondent that C holds: the node, the moment of its last call, and the answers of that call.
 #[derive(Drop)]
 pub struct Station {
     pub node: Correspondent,
     pub last: Moment,
-    pub answers: Answers,
-    pub given: usize,
+    pub outbox: Outbox,
     pub ghost tied: { node.known.last.0 ≡ last.0 },
 }

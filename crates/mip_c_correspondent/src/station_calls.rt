@@ -1,15 +1,15 @@
 //! What a correspondent that C holds does about each call.
 
-ghost use Rattle.std.specs.Prelude.{◌≡◌, None, slice_get, true};
+ghost use Rattle.std.specs.Prelude.{◌≡◌, None, true};
 ghost use Rattle.mip_rules_correspondent.specs.Calls as calls;
-ghost use Rattle.mip_c_correspondent.specs.Stations.{Answers as AnswersCall, Ticks, TellsNext, TellsRoute, TellsRow, is_sendable};
+ghost use Rattle.mip_c_correspondent.specs.Stations.{Answers as AnswersCall, Ticks, TellsNextOf, TellsRoute, TellsRow, is_sendable};
 
 use crate::row_fields;
 use crate::row_fields::RowFields;
 use crate::station::Station;
-use mip_c_words::answer_fields::{AnswerFields, bytes_of, fields_of};
-use mip_c_words::giving::tell;
+use mip_c_words::answer_fields::AnswerFields;
 use mip_c_words::moments::is_late;
+use mip_c_words::outbox::Outbox;
 use mip_c_words::status::{ARGUMENT, LATE, MEMORY, NONE, OK};
 use mip_entries::Answers;
 use mip_words::protocol::{ICMPV6, IPV6, MOBILITY_HEADER, NO_NEXT_HEADER};
@@ -38,8 +38,7 @@ impl Station {
         match self.node.take(alloc, now, number, None, packet) {
             Ok(answers) => {
                 self.last = now;
-                self.answers = answers;
-                self.given = 0;
+                self.outbox = Outbox::of(answers);
                 OK
             }
             Err(Memory) => MEMORY,
@@ -56,8 +55,7 @@ impl Station {
         match self.node.refresh(alloc, now, home) {
             Ok(answers) => {
                 self.last = now;
-                self.answers = answers;
-                self.given = 0;
+                self.outbox = Outbox::of(answers);
                 OK
             }
             Err(Memory) => MEMORY,
@@ -84,8 +82,7 @@ impl Station {
         match self.node.send(alloc, now, to, proto, payload) {
             Ok(answers) => {
                 self.last = now;
-                self.answers = answers;
-                self.given = 0;
+                self.outbox = Outbox::of(answers);
                 OK
             }
             Err(Memory) => MEMORY,
@@ -103,8 +100,7 @@ impl Station {
             Ok(answers) => {
                 self.node.tick(now);
                 self.last = now;
-                self.answers = answers;
-                self.given = 0;
+                self.outbox = Outbox::of(answers);
                 OK
             }
             Err(Memory) => MEMORY,
@@ -112,24 +108,10 @@ impl Station {
     }
 
     /// Tells the next answer of the last call.
-    #[tactic(auto, using(std::proofs::lemmas::Option::slice_get_past))]
     pub fn next(&mut self, fields: &mut AnswerFields, bytes: &mut [u8], size: &mut usize) -> u32
-        ensures { TellsNext (slice_get self.old.answers self.old.given) self.old self.new result fields.old fields.new bytes.old bytes.new size.old size.new }
+        ensures { TellsNextOf self.old self.new result fields.old fields.new bytes.old bytes.new size.old size.new }
     {
-        if self.given >= self.answers.len() {
-            return NONE;
-        }
-        match self.answers.at(self.given) {
-            Some(answer) => {
-                *fields = fields_of(answer);
-                let status = tell(OK, bytes_of(answer), bytes, size);
-                if status == OK {
-                    self.given += 1;
-                }
-                status
-            }
-            None => NONE,
-        }
+        self.outbox.next(fields, bytes, size)
     }
 
     /// Tells the care-of address that is held for a home.

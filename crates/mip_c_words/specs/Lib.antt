@@ -3,4 +3,5 @@ pub mod Answered
 pub mod Calls
 pub mod Giving
 pub mod Moments
+pub mod Outboxes
 pub mod Whys

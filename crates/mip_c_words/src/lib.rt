@@ -8,5 +8,6 @@ pub mod answer_kind;
 pub mod giving;
 pub mod loose;
 pub mod moments;
+pub mod outbox;
 pub mod status;
 pub mod why_number;

@@ -135,8 +135,7 @@ impl Correspondent {
     /// A call at this moment ends, and an update that was accepted has its row.
     #[tactic(auto, using(crate::proofs::Rows::kept_sound))]
     fn commit_call(&mut self, now: Moment, kept: Option<AcceptedBinding>)
-        requires later { self.old.known.last.0 ≤ now.0 }
-        requires early { now.0 < 2 ^ 62 }
+        requires timely { IsTimely self.old.known.last.0 now.0 }
         requires fits { Fits now.0 self.old.known.cache kept }
         ensures { self.new ≡ record { identity = self.old.identity; known = left now.0 (with_kept now.0 kept self.old.known.cache) } }
     {

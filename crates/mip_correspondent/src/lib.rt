@@ -11,6 +11,7 @@ mod receiving;
 mod sending;
 mod test_init;
 mod update;
+mod update_context;
 
 pub use correspondent::Correspondent;
 pub use part::is_for_part;

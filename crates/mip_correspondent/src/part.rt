@@ -1,6 +1,6 @@
 //! The correspondent part of a node: test inits, updates and data (RFC 6275 sections 9.3.1, 9.4 and 9.5).
 
-ghost use Rattle.std.specs.Prelude.{◌≡◌, ◌≤◌, ◌<◌, ◌^◌, IfOk, IsTrue, IsFalse, Some, option_map};
+ghost use Rattle.std.specs.Prelude.{◌≡◌, IfOk, IsTrue, IsFalse, Some, option_map};
 ghost use Rattle.mip_ipv6.specs.Packet.{packet as tree, is_routable_if_any};
 ghost use Rattle.mip_mobhdr.specs.Said.{said};
 ghost use Rattle.mip_packets.specs.Updates.{IsReadUpdate};
@@ -14,6 +14,7 @@ use crate::answering::hand_up;
 use crate::packet_context::PacketContext;
 use crate::test_init::{answer_careof_init, answer_home_init};
 use crate::update::take_update;
+use crate::update_context::UpdateContext;
 use mip_entries::Answers;
 use mip_ipv6::PacketRef;
 use mip_mobhdr::Message;
@@ -84,8 +85,6 @@ fn answer_update(
     packet: &PacketRef<'_>,
     message: &Message<'_>,
 ) -> Result<Option<AcceptedBinding>, Memory>
-    requires early { context.now.moment.0 < 2 ^ 62 }
-    requires later { context.now.cache.now.last ≤ context.now.moment.0 }
     requires plain { IsTrue (is_routable_if_any packet.now.head.home) }
     requires read { IsReadUpdate (Some (said message.now)) packet.now.body.now }
     requires other { IsFalse (is_probe (Some (said message.now))) }
@@ -94,7 +93,14 @@ fn answer_update(
         (by_message context.now.identity.now context.now.number (tree packet.now) (Some (said message.now))) answers.old answers.new }
 {
     match registration_of(packet.head.source, packet.head.home, message) {
-        Some(registration) => take_update(alloc, answers, context, &registration, packet.body),
+        Some(registration) => {
+            let update = UpdateContext {
+                context,
+                registration: &registration,
+                message: packet.body,
+            };
+            take_update(alloc, answers, &update)
+        }
         None => Ok(None),
     }
 }
@@ -107,8 +113,6 @@ pub fn answer_message(
     packet: &PacketRef<'_>,
     message: &Option<Message<'_>>,
 ) -> Result<Option<AcceptedBinding>, Memory>
-    requires early { context.now.moment.0 < 2 ^ 62 }
-    requires later { context.now.cache.now.last ≤ context.now.moment.0 }
     requires plain { IsTrue (is_routable_if_any packet.now.head.home) }
     requires read { IsReadUpdate (option_map said message.now) packet.now.body.now }
     ensures fits { IfOk result (Fits context.now.moment.0 context.now.cache.now) }

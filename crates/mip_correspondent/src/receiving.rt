@@ -1,6 +1,6 @@
 //! What a correspondent does about a packet (RFC 6275 sections 9.2 to 9.5).
 
-ghost use Rattle.std.specs.Prelude.{◌≡◌, ◌≤◌, ◌<◌, ◌^◌, ◌-◌, IfOk, IsTrue, option_map, Ok};
+ghost use Rattle.std.specs.Prelude.{◌≡◌, ◌<◌, ◌^◌, ◌-◌, IfOk, IsTrue, option_map, Ok};
 ghost use Rattle.mip_ipv6.specs.Packet.{packet as tree, is_routable_if_any};
 ghost use Rattle.mip_ipv6.specs.Reading.{packet_of};
 ghost use Rattle.mip_mobhdr.specs.Said.{said};
@@ -22,7 +22,6 @@ use std::alloc::Global;
 
 /// Whether a binding from the home address of a Home Address option to the source stands.
 fn holds_option(context: &PacketContext<'_>, source: Address, home: Option<Address>) -> bool
-    requires { context.now.cache.now.last ≤ context.now.moment.0 }
     ensures { result ≡ holds_option (left context.now.moment.0 context.now.cache.now) context.now.moment.0 source home }
 {
     let Some(home) = home else {
@@ -33,7 +32,6 @@ fn holds_option(context: &PacketContext<'_>, source: Address, home: Option<Addre
 
 /// What a packet's addresses are to the node.
 fn standing(context: &PacketContext<'_>, head: &Head) -> AddressMatch
-    requires { context.now.cache.now.last ≤ context.now.moment.0 }
     ensures { result ≡ standing_of context.now.identity.now (left context.now.moment.0 context.now.cache.now) context.now.moment.0 head.now }
 {
     AddressMatch {
@@ -82,8 +80,6 @@ fn answer_role(
     packet: &PacketRef<'_>,
     message: &Option<Message<'_>>,
 ) -> Result<Option<AcceptedBinding>, Memory>
-    requires early { context.now.moment.0 < 2 ^ 62 }
-    requires later { context.now.cache.now.last ≤ context.now.moment.0 }
     requires plain { IsTrue (is_routable_if_any packet.now.head.home) }
     requires read { IsReadUpdate (option_map said message.now) packet.now.body.now }
     ensures fits { IfOk result (Fits context.now.moment.0 context.now.cache.now) }
@@ -105,8 +101,6 @@ fn take_packet(
     bytes: &[u8],
     packet: &PacketRef<'_>,
 ) -> Result<Option<AcceptedBinding>, Memory>
-    requires early { context.now.moment.0 < 2 ^ 62 }
-    requires later { context.now.cache.now.last ≤ context.now.moment.0 }
     requires plain { IsTrue (is_routable_if_any packet.now.head.home) }
     requires placed { packet.now.place ≡ place_in bytes.now (tree packet.now) }
     requires near { packet.now.place < 2 ^ 32 - 1 }
@@ -131,8 +125,6 @@ pub fn receive(
     context: &PacketContext<'_>,
     bytes: &[u8],
 ) -> Result<Option<AcceptedBinding>, Memory>
-    requires early { context.now.moment.0 < 2 ^ 62 }
-    requires later { context.now.cache.now.last ≤ context.now.moment.0 }
     ensures fits { IfOk result (Fits context.now.moment.0 context.now.cache.now) }
     ensures shows { Leads context.now.moment.0 context.now.cache.now result
         (receives context.now.identity.now context.now.number bytes.now (packet_of bytes.now)) answers.old answers.new }

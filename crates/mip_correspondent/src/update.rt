@@ -1,21 +1,18 @@
 //! What a correspondent does about a Binding Update (RFC 6275 sections 9.5.1 and 9.5.4).
 
-ghost use Rattle.std.specs.Prelude.{◌≡◌, ◌≤◌, ◌<◌, ◌^◌, Some, IfOk, IsTrue, option_copied};
-ghost use Rattle.mip_ipv6.specs.Packet.{is_routable_if_any};
+ghost use Rattle.std.specs.Prelude.{◌≡◌, IfOk, option_copied};
 ghost use Rattle.mip_bcache.specs.Seen.{CacheSeen};
-ghost use Rattle.mip_reception.specs.Registrations.{registration_in};
 ghost use Rattle.mip_rules_correspondent.specs.Rules.{denies, acknowledges, accepts, judged, takes_update};
-ghost use Rattle.mip_verdict.specs.Judging.{key_in};
 ghost use Rattle.mip_correspondent.specs.Showing.{kept_of, Fits, Goes, Keeps, Leads};
 
 use crate::accepted_binding::AcceptedBinding;
 use crate::answering::{drop_packet, keep_witness, note_acceptance, note_denial, send};
-use crate::packet_context::PacketContext;
+use crate::update_context::UpdateContext;
 use mip_entries::Answers;
-use mip_reception::{Registration, status, write_ack};
+use mip_reception::{status, write_ack};
 use mip_rules_correspondent::Verdict;
 use mip_tokens::PreparedKbm;
-use mip_verdict::{Judged, verdict};
+use mip_verdict::{JudgeContext, Judged, verdict};
 use mip_words::Memory;
 use std::alloc::Global;
 
@@ -24,19 +21,17 @@ use std::alloc::Global;
 fn deny(
     alloc: Global,
     answers: &mut Answers,
-    context: &PacketContext<'_>,
-    registration: &Registration,
+    update: &UpdateContext<'_>,
     status: u8,
     last: u16,
     kbm: Option<&PreparedKbm>,
 ) -> Result<(), Memory>
-    requires { IsTrue (is_routable_if_any registration.now.home_option) }
-    ensures { Goes context.now.moment.0 result
-        (denies context.now.identity.now context.now.number registration.now status last (option_copied kbm.entry)) answers.old answers.new }
+    ensures { Goes update.now.context.now.moment.0 result
+        (denies update.now.context.now.identity.now update.now.context.now.number update.now.registration.now status last (option_copied kbm.entry)) answers.old answers.new }
 {
-    let own = context.identity.own;
-    note_denial(answers, context.number, status)?;
-    let ack = write_ack(alloc, own, registration, status, last, 0, kbm)?;
+    let own = update.context.identity.own;
+    note_denial(answers, update.context.number, status)?;
+    let ack = write_ack(alloc, own, update.registration, status, last, 0, kbm)?;
     send(answers, ack)
 }
 
@@ -44,24 +39,24 @@ fn deny(
 fn acknowledge(
     alloc: Global,
     answers: &mut Answers,
-    context: &PacketContext<'_>,
-    registration: &Registration,
+    update: &UpdateContext<'_>,
     granted: u16,
     kbm: &PreparedKbm,
 ) -> Result<(), Memory>
-    requires { IsTrue (is_routable_if_any registration.now.home_option) }
-    ensures { Goes context.now.moment.0 result (acknowledges context.now.identity.now registration.now granted kbm.now) answers.old answers.new }
+    ensures { Goes update.now.context.now.moment.0 result (acknowledges update.now.context.now.identity.now update.now.registration.now granted kbm.now) answers.old answers.new }
 {
+    let registration = update.registration;
     if !registration.ack {
         return Ok(());
     }
-    let own = context.identity.own;
+    let own = update.context.identity.own;
+    let sequence = registration.sequence;
     let ack = write_ack(
         alloc,
         own,
         registration,
         status::ACCEPTED,
-        registration.sequence,
+        sequence,
         granted,
         Some(kbm),
     )?;
@@ -73,42 +68,38 @@ fn acknowledge(
 fn accept(
     alloc: Global,
     answers: &mut Answers,
-    context: &PacketContext<'_>,
-    registration: &Registration,
+    update: &UpdateContext<'_>,
     kept: &AcceptedBinding,
     granted: u16,
     kbm: &PreparedKbm,
 ) -> Result<(), Memory>
-    requires { IsTrue (is_routable_if_any registration.now.home_option) }
-    ensures { Keeps context.now.moment.0 kept.now result
-        (accepts context.now.identity.now context.now.number registration.now kept.now.home kept.now.number kept.now.accepted granted kbm.now) answers.old answers.new }
+    ensures { Keeps update.now.context.now.moment.0 kept.now result
+        (accepts update.now.context.now.identity.now update.now.context.now.number update.now.registration.now kept.now.home kept.now.number kept.now.accepted granted kbm.now) answers.old answers.new }
 {
-    note_acceptance(answers, context.number, kept)?;
-    acknowledge(alloc, answers, context, registration, granted, kbm)
+    note_acceptance(answers, update.context.number, kept)?;
+    acknowledge(alloc, answers, update, granted, kbm)
 }
 
 /// What follows from a verdict, under the key that it names.
 fn carry_out(
     alloc: Global,
     answers: &mut Answers,
-    context: &PacketContext<'_>,
-    registration: &Registration,
+    update: &UpdateContext<'_>,
     judgement: Judged,
 ) -> Result<Option<AcceptedBinding>, Memory>
-    requires plain { IsTrue (is_routable_if_any registration.now.home_option) }
-    requires key { judgement.kbm ≡ key_in judgement.verdict }
     ensures kept { IfOk result (λ kept. kept ≡ kept_of judgement.verdict) }
     ensures shows { (cache : CacheSeen)
-        → Leads context.now.moment.0 cache result (judged context.now.identity.now context.now.number registration.now judgement.verdict) answers.old answers.new }
+        → Leads update.now.context.now.moment.0 cache result (judged update.now.context.now.identity.now update.now.context.now.number update.now.registration.now judgement.verdict) answers.old answers.new }
 {
+    let verdict = judgement.verdict;
     let kbm = judgement.kbm.as_ref();
-    match judgement.verdict {
+    match verdict {
         Verdict::Refuse(why) => {
-            drop_packet(answers, context.number, why)?;
+            drop_packet(answers, update.context.number, why)?;
             Ok(None)
         }
         Verdict::Deny { status, last, .. } => {
-            deny(alloc, answers, context, registration, status, last, kbm)?;
+            deny(alloc, answers, update, status, last, kbm)?;
             Ok(None)
         }
         Verdict::Accept {
@@ -126,7 +117,7 @@ fn carry_out(
                 number,
                 accepted,
             };
-            accept(alloc, answers, context, registration, &kept, granted, kbm)?;
+            accept(alloc, answers, update, &kept, granted, kbm)?;
             keep_witness(alloc, answers, judgement.witness)?;
             Ok(Some(kept))
         }
@@ -138,26 +129,19 @@ fn carry_out(
 pub fn take_update(
     alloc: Global,
     answers: &mut Answers,
-    context: &PacketContext<'_>,
-    registration: &Registration,
-    message: &[u8],
+    update: &UpdateContext<'_>,
 ) -> Result<Option<AcceptedBinding>, Memory>
-    requires early { context.now.moment.0 < 2 ^ 62 }
-    requires later { context.now.cache.now.last ≤ context.now.moment.0 }
-    requires plain { IsTrue (is_routable_if_any registration.now.home_option) }
-    requires read { registration_in registration.now.source registration.now.home_option message.now ≡ Some registration.now }
-    ensures fits { IfOk result (Fits context.now.moment.0 context.now.cache.now) }
-    ensures shows { Leads context.now.moment.0 context.now.cache.now result
-        (takes_update context.now.identity.now context.now.number registration.now message.now) answers.old answers.new }
+    ensures fits { IfOk result (Fits update.now.context.now.moment.0 update.now.context.now.cache.now) }
+    ensures shows { Leads update.now.context.now.moment.0 update.now.context.now.cache.now result
+        (takes_update update.now.context.now.identity.now update.now.context.now.number update.now.registration.now update.now.message.now) answers.old answers.new }
 {
-    let identity = context.identity;
-    let judged = verdict(
-        context.moment,
-        &identity.secrets,
-        context.cache,
-        identity.own,
-        registration,
-        message,
-    );
-    carry_out(alloc, answers, context, registration, judged)
+    let context = update.context;
+    let judge = JudgeContext {
+        own: context.identity.own,
+        secrets: &context.identity.secrets,
+        moment: context.moment,
+        cache: context.cache,
+    };
+    let judged = verdict(&judge, update.registration, update.message);
+    carry_out(alloc, answers, update, judged)
 }

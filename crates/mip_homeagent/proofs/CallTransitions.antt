@@ -47,7 +47,7 @@ ends_shown old new now c k claiming answers shows is = record {
 
 -- a packet that is handed over
 pub take_shown : (s : AgentSeen) (now number : ℕ) (shield : Option Shield) (bytes : List ℕ) (claim : Claim) (change : Option Change) (answers : List Answer)
-    → Leads (receives (handing s.identity now (opened now s.known) number shield bytes claim) (packet_of bytes)) now (opened now s.known) [] answers change
+    → Leads (receives (handing s.identity now (opened now s.known) number shield bytes claim) (packet_of bytes)) now (opened now s.known) answers change
     → Shows now (with_change change (opened now s.known)) (claims_with change) answers (transition_at s now (calls.Take number shield bytes claim))
 unfolding does takes after
 take_shown s now number shield bytes claim change answers leads =

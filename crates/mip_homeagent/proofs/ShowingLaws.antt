@@ -19,7 +19,7 @@ use Rattle.mip_rules_agent.specs.Questions.{bound_to, with_served, ends_with, af
 use Rattle.mip_rules_agent.specs.Claims.{claims_after, claims_by}
 use Rattle.mip_rules_agent.specs.Transitions.{Transition, begun, noted}
 use Rattle.mip_homeagent.specs.Changes.{Claiming, unclaimed, with_holding, claims_held, holding_of, answers_change}
-use Rattle.mip_homeagent.specs.Showing.{Shows}
+use Rattle.mip_homeagent.specs.Showing.{Shows, Leads}
 
 claims-noted : (step : Step) (t : Transition) (claims : ℕ → Bool) → claims_by (noted step t).steps claims ≡ claims_after step (claims_by t.steps claims)
 claims-noted step t claims =
@@ -37,6 +37,10 @@ shown step now known claiming answers more t e s = (
 -- steps that change nothing but the answers
 abbrev pub Continues : (Transition → Transition) → (old new : List Answer) → Type 0
 Continues rule old new = (now : ℕ) (known : Known) (claiming : Claiming) (t : Transition) → Shows now known claiming old t → Shows now known claiming new (rule t)
+
+-- where nothing was answered before, such a rule accepts no registration
+pub leads_unchanged : (rule : Transition → Transition) (old new : List Answer) (now : ℕ) (k : Known) → old ≡ [] → Continues rule old new → Leads rule now k new None
+leads_unchanged rule old new now k e goes = λ t s. goes now k unclaimed t (subst (λ (l : List Answer). Shows now k unclaimed l t) (sym e) s)
 
 pub sent : (shield : Option Shield) (packet : List ℕ) (answers more : List Answer) → more ≡ answers ++ answer_of (Sends shield packet) → Continues (noted (Sends shield packet)) answers more
 unfolding after

@@ -13,6 +13,7 @@ use Rattle.mip_rules_agent.specs.Known.{Known}
 use Rattle.mip_rules_agent.specs.Steps.{answer_of, Registers, Claims, Releases}
 use Rattle.mip_rules_agent.specs.Questions.{bound_to, holding, with_served}
 use Rattle.mip_homeagent.specs.declared.change.Change.{Change}
+use Rattle.mip_homeagent.specs.declared.response.Response.{Response}
 
 -- an address is held from here on, or no more; it stays where nothing is said
 abbrev pub with_holding : Option Bool → Address → List Served → List Served
@@ -47,6 +48,9 @@ claims_held (Some false) home claims = without_claim home.0 claims
 abbrev pub claims_with : Option Change → Claiming
 claims_with None claims = claims
 claims_with (Some c) claims = claims_held c.holding c.home claims
+
+abbrev pub claims_made : Response → Claiming
+claims_made r = claims_with r.change
 
 -- what a call makes of its place: its claims change by what the call answers, and are as they were where it fails; what no call
 -- of a place changes stays, and it is the same place

@@ -8,8 +8,7 @@ use Rattle.mip_outside.specs.Places.{Around, claim_in}
 use Rattle.mip_rules_agent.specs.Rules.{Handing, place_in}
 use Rattle.mip_homeagent.specs.declared.packet_context.PacketContext.{PacketContext}
 use Rattle.mip_rules_agent.specs.Transitions.{Transition}
-use Rattle.mip_entries.specs.declared.answer.Answer.{Answer}
-use Rattle.mip_homeagent.specs.declared.change.Change.{Change}
+use Rattle.mip_homeagent.specs.declared.response.Response.{Response}
 use Rattle.mip_homeagent.specs.Showing.{Leads, opened}
 
 abbrev pub handing_at : PacketContext → Claim → Handing
@@ -34,6 +33,6 @@ pub record IsRead (bytes : List ℕ) (p : PacketRef) : Type 0 where
 abbrev pub claim_of : Around → Head → Claim
 claim_of around head = claim_in around (source_of head).0
 
--- a rule for a packet that is handed over, which gives the registration that it accepts, if it does
-abbrev pub Follows : {E : Type 0} → PacketContext → Result (Option Change) E → (Transition → Transition) → (old new : List Answer) → Type 0
-Follows d result rule old new = IfOk result (λ change. Leads rule d.moment.0 (opened d.moment.0 d.known.now) old new change)
+-- a rule for a packet that is handed over: the answers, and the registration that it accepts, if it does
+abbrev pub Follows : {E : Type 0} → PacketContext → Result Response E → (Transition → Transition) → Type 0
+Follows d result rule = IfOk result (λ response. Leads rule d.moment.0 (opened d.moment.0 d.known.now) response.answers response.change)

@@ -1,5 +1,5 @@
 -- What a transition shows as it goes on: its answers so far, what is known, and what became of claims.
-use Rattle.std.specs.Prelude.{◌≡◌, ℕ, List, Option, Bool, Result, OnOk}
+use Rattle.std.specs.Prelude.{◌≡◌, ℕ, List, [], Option, Bool, Result, OnOk}
 use Rattle.mip_entries.specs.declared.answer.Answer.{Answer}
 use Rattle.mip_rules_agent.specs.Known.{Known}
 use Rattle.mip_rules_agent.specs.Claims.{claims_by}
@@ -15,10 +15,10 @@ abbrev pub Goes : {R E : Type 0} → Result R E → (Transition → Transition) 
 Goes result rule old new =
     (now : ℕ) (known : Known) (claiming : Claiming) (t : Transition) → Shows now known claiming old t → OnOk result (Shows now known claiming new (rule t))
 
--- a rule that may accept a registration
-abbrev pub Leads : (Transition → Transition) → (now : ℕ) → Known → (old new : List Answer) → Option Change → Type 0
-Leads rule now known old new change =
-    (t : Transition) → Shows now known unclaimed old t → Shows now (with_change change known) (claims_with change) new (rule t)
+-- a rule that may accept a registration, where nothing was answered before
+abbrev pub Leads : (Transition → Transition) → (now : ℕ) → Known → List Answer → Option Change → Type 0
+Leads rule now known answers change =
+    (t : Transition) → Shows now known unclaimed [] t → Shows now (with_change change known) (claims_with change) answers (rule t)
 
 -- what is known once a call has begun that changes neither list nor plan
 abbrev pub opened : ℕ → Known → Known

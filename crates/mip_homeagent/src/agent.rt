@@ -25,6 +25,7 @@ use crate::answering::note_ends;
 use crate::ending::release_all;
 use crate::packet_context::PacketContext;
 use crate::receiving::receive;
+use crate::state_at::StateAt;
 use mip_discovery::PrefixPlan;
 use mip_entries::{Answers, UpdateSeen};
 use mip_home_verdict::verdict;
@@ -188,7 +189,11 @@ impl HomeAgent {
             IsSomeAnd (registration_in update.now.source update.now.home update.now.message.now) (λ r. IsOwnUpdate self.now.known shield r home) }
     {
         let registration = registration_in(update);
-        let bench = self.known.bench(&self.identity, now, &registration);
+        let state = StateAt {
+            known: &self.known,
+            moment: now,
+        };
+        let bench = state.bench(&self.identity, &registration);
         verdict(&bench, shield, claim, &registration)
     }
 
@@ -220,7 +225,6 @@ impl HomeAgent {
         ensures last { OnOk result (self.new.known.last ≡ now.0) }
         ensures err { OnErr result (self.new ≡ self.old) }
     {
-        let mut answers = Answers::new(alloc)?;
         let context = PacketContext {
             identity: &self.identity,
             known: &self.known,
@@ -229,8 +233,8 @@ impl HomeAgent {
             shield,
             bytes: packet,
         };
-        let change = receive(alloc, &mut answers, &context, place)?;
-        self.known.apply_change(now, change);
-        Ok(answers)
+        let response = receive(alloc, &context, place)?;
+        self.known.apply_change(now, response.change);
+        Ok(response.answers)
     }
 }

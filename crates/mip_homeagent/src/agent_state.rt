@@ -1,9 +1,6 @@
 ghost use Rattle.std.specs.Prelude.{◌≡◌, ◌≤◌, ◌<◌, ◌^◌, true, IfSome, IfOk, OnOk, OnErr, option_copied, slice_get};
 ghost use Rattle.mip_words.specs.Addresses.{is_routable};
-ghost use Rattle.mip_discovery.specs.Heard.{live};
-ghost use Rattle.mip_discovery.specs.Reply.{discovery_reply};
-ghost use Rattle.mip_rules_agent.specs.Questions.{served_at, is_served, binding_of, kept_of, holds, careof_at, rows_at, is_full, fresh, due_ends, ends_with, valid_at, preferred_at};
-ghost use Rattle.mip_rules_agent.specs.Rules.{bench};
+ghost use Rattle.mip_rules_agent.specs.Questions.{served_at, is_served, binding_of, kept_of, holds, careof_at, rows_at, is_full, fresh, due_ends, ends_with};
 ghost use Rattle.mip_homeagent.specs.Changes.{with_change};
 ghost use Rattle.mip_homeagent.specs.Showing.{opened};
 ghost use Rattle.mip_homeagent.specs.Endings.{answers_told, heard_at, planned_at, given_up};
@@ -16,11 +13,8 @@ use crate::change::Change;
 use crate::{homes, prefixes};
 use mip_discovery::{Agents, PrefixPlan};
 use mip_entries::Answers;
-use mip_reception::{Registration, home_of};
-use mip_rules_agent::{
-    Bench, Ending, HomeBinding, HomeRow, Identity, Served, due_ends, ends_with, keep_later_ends,
-};
-use mip_words::{Address, Bytes, Memory, Moment};
+use mip_rules_agent::{Ending, HomeBinding, HomeRow, Served, due_ends, ends_with, keep_later_ends};
+use mip_words::{Address, Memory, Moment};
 use std::alloc::Global;
 use std::marker::Model;
 
@@ -110,28 +104,10 @@ impl AgentState {
     }
 
     /// Whether so many homes are registered, and this one is not.
-    fn is_full(&self, room: u32, now: Moment, home: Address) -> bool
+    pub(crate) fn is_full(&self, room: u32, now: Moment, home: Address) -> bool
         ensures { result ≡ is_full room self.now now.0 home }
     {
         self.careof(now, home).is_none() && homes::count(&self.homes, now) >= room as usize
-    }
-
-    /// For how many seconds the prefix is still valid.
-    pub fn valid(&self, now: Moment) -> u32
-        requires { self.now.last ≤ now.0 }
-        ensures { result ≡ valid_at self.now now.0 }
-    {
-        let (valid, _preferred) = self.plan.left(now);
-        valid
-    }
-
-    /// For how many seconds the prefix is still preferred.
-    pub fn preferred(&self, now: Moment) -> u32
-        requires { self.now.last ≤ now.0 }
-        ensures { result ≡ preferred_at self.now now.0 }
-    {
-        let (_valid, preferred) = self.plan.left(now);
-        preferred
     }
 
     /// The ends after a registration, or a deregistration, of a home.
@@ -144,37 +120,6 @@ impl AgentState {
         ensures { IfOk result (λ v. v.items ≡ ends_with home binding.now self.now.ends) }
     {
         ends_with(alloc, &self.ends, home, binding)
-    }
-
-    /// The packet that answers a request for the home agents of the link.
-    pub fn answer_discovery(
-        &self,
-        alloc: Global,
-        me: &Identity,
-        now: Moment,
-        to: Address,
-        identifier: u16,
-    ) -> Result<Bytes, Memory>
-        requires { self.now.last ≤ now.0 }
-        ensures { IfOk result (λ b. b ≡ discovery_reply me.now.own me.now.preference to identifier (live now.0 self.now.agents.agents)) }
-    {
-        self.agents
-            .answer_discovery(alloc, now, me.own, me.preference, to, identifier)
-    }
-
-    /// What an update is judged by.
-    pub fn bench(&self, identity: &Identity, now: Moment, registration: &Registration) -> Bench
-        requires { self.now.last ≤ now.0 }
-        ensures { result ≡ bench identity.now self.now now.0 registration.now }
-    {
-        let home = home_of(registration);
-        Bench {
-            own: identity.own,
-            valid: self.valid(now),
-            served: self.is_served(home),
-            kept: self.kept(home),
-            full: self.is_full(identity.room, now, home),
-        }
     }
 
     /// A call at this moment ends, and what it accepted is kept.

@@ -12,8 +12,11 @@ mod judging;
 mod packet_context;
 mod prefixes;
 mod receiving;
+mod response;
+mod state_at;
 mod tunnel;
 mod update;
+mod update_context;
 
 pub use agent::HomeAgent;
 pub use mip_rules_agent::{HomeRow, HomeVerdict};

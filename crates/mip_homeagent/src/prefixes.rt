@@ -117,7 +117,6 @@ fn answer_solicitation(
     identifier: u16,
     careof: Option<Address>,
 ) -> Result<(), Memory>
-    requires later { context.now.known.now.last ≤ context.now.moment.0 }
     requires routable { IfSome careof (λ _. is_routable home.0 ≡ true) }
     ensures { (claim : Claim) → Goes result (answers_solicitation (handing_at context.now claim) home identifier careof) answers.old answers.new }
 {
@@ -127,8 +126,8 @@ fn answer_solicitation(
             if !is_from(home, context.shield) {
                 return drop_packet(answers, context.number, Why::Role);
             }
-            let valid = context.known.valid(context.moment);
-            let preferred = context.known.preferred(context.moment);
+            let valid = context.state().valid();
+            let preferred = context.state().preferred();
             let own = context.identity.own;
             advertise(
                 alloc, answers, own, home, careof, identifier, valid, preferred,
@@ -146,13 +145,10 @@ fn name_agents(
     to: Address,
     identifier: u16,
 ) -> Result<(), Memory>
-    requires later { context.now.known.now.last ≤ context.now.moment.0 }
     ensures { (claim : Claim) → Goes result (names_agents (handing_at context.now claim) to identifier) answers.old answers.new }
 {
     let me = context.identity;
-    let packet = context
-        .known
-        .answer_discovery(alloc, me, context.moment, to, identifier)?;
+    let packet = context.state().answer_discovery(alloc, me, to, identifier)?;
     send(answers, None, packet)
 }
 
@@ -163,7 +159,6 @@ pub fn take_icmp(
     context: &PacketContext<'_>,
     packet: &PacketRef<'_>,
 ) -> Result<(), Memory>
-    requires later { context.now.known.now.last ≤ context.now.moment.0 }
     requires short { length packet.now.body.now ≤ 65535 }
     ensures { (claim : Claim)
         → Goes result (takes_icmp (handing_at context.now claim) (tree packet.now) (icmp_of (source_of packet.now.head) (destination_of packet.now.head) packet.now.body.now)) answers.old answers.new }

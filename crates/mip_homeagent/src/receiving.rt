@@ -1,6 +1,6 @@
 //! What a home agent does about a packet (RFC 6275 section 10).
 
-ghost use Rattle.std.specs.Prelude.{◌≡◌, ◌≤◌, ◌<◌, ◌-◌, IsTrue, Ok, Some, option_map, length, []};
+ghost use Rattle.std.specs.Prelude.{◌≡◌, ◌≤◌, ◌<◌, ◌-◌, IsTrue, Ok, Some, option_map, length};
 ghost use Rattle.mip_ipv6.specs.Packet.{packet as tree, is_routable_if_any};
 ghost use Rattle.mip_ipv6.specs.Reading.{packet_of};
 ghost use Rattle.mip_mobhdr.specs.Said.{said};
@@ -9,16 +9,17 @@ ghost use Rattle.mip_rules_agent.specs.Calls.{claim_for};
 ghost use Rattle.mip_rules_agent.specs.Questions.{careof_at};
 ghost use Rattle.mip_rules_agent.specs.Rules.{holds_option, standing_of, refuses, by_proto, by_role, by_destination, receives};
 ghost use Rattle.mip_homeagent.specs.Showing.{Goes, opened};
-ghost use Rattle.mip_homeagent.specs.Changes.{claims_with, ChangesClaims};
+ghost use Rattle.mip_homeagent.specs.Changes.{claims_made, ChangesClaims};
 ghost use Rattle.mip_homeagent.specs.Contexts.{handing_at, claim_of, IsRead, Follows};
-ghost use Rattle.mip_homeagent.specs.Soundness.{IsReady};
+ghost use Rattle.mip_homeagent.specs.Soundness.{HasRoom};
 
 use crate::answering::{drop_packet, send};
-use crate::change::Change;
 use crate::packet_context::PacketContext;
 use crate::prefixes::take_icmp;
+use crate::response::Response;
 use crate::tunnel::{intercept, is_careof, take_tunnel};
 use crate::update::take_update;
+use crate::update_context::UpdateContext;
 use mip_entries::Answers;
 use mip_ipv6::{Head, PacketRef, read_packet};
 use mip_mobhdr::Message;
@@ -77,7 +78,6 @@ fn take_other(
     context: &PacketContext<'_>,
     packet: &PacketRef<'_>,
 ) -> Result<(), Memory>
-    requires later { context.now.known.now.last ≤ context.now.moment.0 }
     requires short { length packet.now.body.now ≤ 65535 }
     ensures { (claim : Claim) → Goes result (by_proto (handing_at context.now claim) (tree packet.now)) answers.old answers.new }
 {
@@ -94,52 +94,55 @@ fn take_other(
 /// An update is taken; no other mobility message is.
 fn take_message<P: Place>(
     alloc: Global,
-    answers: &mut Answers,
     context: &PacketContext<'_>,
     place: &mut P,
     packet: &PacketRef<'_>,
     message: &Message<'_>,
-) -> Result<Option<Change>, Memory>
-    requires ready { IsReady (P.around place.old) context.now.moment.0 context.now.known.now }
+) -> Result<Response, Memory>
+    requires room { HasRoom (P.around place.old) context.now.known.now }
     requires plain { IsTrue (is_routable_if_any packet.now.head.home) }
-    requires empty { answers.old ≡ [] }
-    ensures place { ChangesClaims result claims_with
+    ensures place { ChangesClaims result claims_made
         (P.around place.old) (P.around place.new) (P.claims place.old) (P.claims place.new) (P.is_same place.old place.new) }
     ensures shows { Follows context.now result
-        (by_role (handing_at context.now (claim_of (P.around place.old) packet.now.head)) (tree packet.now) (Some (said message.now))) answers.old answers.new }
+        (by_role (handing_at context.now (claim_of (P.around place.old) packet.now.head)) (tree packet.now) (Some (said message.now))) }
 {
     match registration_of(packet.head.source, packet.head.home, message) {
-        Some(registration) => take_update(alloc, answers, context, place, &registration),
-        None => {
-            drop_packet(answers, context.number, Why::Role)?;
-            Ok(None)
+        Some(registration) => {
+            let update = UpdateContext {
+                context,
+                registration: &registration,
+            };
+            take_update(alloc, &update, place)
         }
+        None => Response::dropped(alloc, context, Why::Role),
     }
 }
 
 /// A packet that passed the checks.
 fn answer_role<P: Place>(
     alloc: Global,
-    answers: &mut Answers,
     context: &PacketContext<'_>,
     place: &mut P,
     packet: &PacketRef<'_>,
     message: &Option<Message<'_>>,
-) -> Result<Option<Change>, Memory>
-    requires ready { IsReady (P.around place.old) context.now.moment.0 context.now.known.now }
+) -> Result<Response, Memory>
+    requires room { HasRoom (P.around place.old) context.now.known.now }
     requires plain { IsTrue (is_routable_if_any packet.now.head.home) }
     requires short { length packet.now.body.now ≤ 65535 }
-    requires empty { answers.old ≡ [] }
-    ensures place { ChangesClaims result claims_with
+    ensures place { ChangesClaims result claims_made
         (P.around place.old) (P.around place.new) (P.claims place.old) (P.claims place.new) (P.is_same place.old place.new) }
     ensures shows { Follows context.now result
-        (by_role (handing_at context.now (claim_of (P.around place.old) packet.now.head)) (tree packet.now) (option_map said message.now)) answers.old answers.new }
+        (by_role (handing_at context.now (claim_of (P.around place.old) packet.now.head)) (tree packet.now) (option_map said message.now)) }
 {
     match message {
-        Some(message) => take_message(alloc, answers, context, place, packet, message),
+        Some(message) => take_message(alloc, context, place, packet, message),
         None => {
-            take_other(alloc, answers, context, packet)?;
-            Ok(None)
+            let mut answers = Answers::new(alloc)?;
+            take_other(alloc, &mut answers, context, packet)?;
+            Ok(Response {
+                answers,
+                change: None,
+            })
         }
     }
 }
@@ -147,81 +150,74 @@ fn answer_role<P: Place>(
 /// A packet that is not for a registered home is checked, and answered.
 fn take_own<P: Place>(
     alloc: Global,
-    answers: &mut Answers,
     context: &PacketContext<'_>,
     place: &mut P,
     packet: &PacketRef<'_>,
-) -> Result<Option<Change>, Memory>
-    requires ready { IsReady (P.around place.old) context.now.moment.0 context.now.known.now }
+) -> Result<Response, Memory>
+    requires room { HasRoom (P.around place.old) context.now.known.now }
     requires read { IsRead context.now.bytes.now packet.now }
-    requires empty { answers.old ≡ [] }
-    ensures place { ChangesClaims result claims_with
+    ensures place { ChangesClaims result claims_made
         (P.around place.old) (P.around place.new) (P.claims place.old) (P.claims place.new) (P.is_same place.old place.new) }
     ensures shows { Follows context.now result
-        (by_destination (handing_at context.now (claim_of (P.around place.old) packet.now.head)) (tree packet.now) None) answers.old answers.new }
+        (by_destination (handing_at context.now (claim_of (P.around place.old) packet.now.head)) (tree packet.now) None) }
 {
     match check(packet, standing(context, &packet.head)) {
         Err(refusal) => {
-            refuse(alloc, answers, context, packet.head.source, refusal)?;
-            Ok(None)
+            let mut answers = Answers::new(alloc)?;
+            refuse(alloc, &mut answers, context, packet.head.source, refusal)?;
+            Ok(Response {
+                answers,
+                change: None,
+            })
         }
-        Ok(message) => answer_role(alloc, answers, context, place, packet, &message),
+        Ok(message) => answer_role(alloc, context, place, packet, &message),
     }
 }
 
 /// A packet that was read: what is sent to a registered home is caught before all checks.
 fn take_packet<P: Place>(
     alloc: Global,
-    answers: &mut Answers,
     context: &PacketContext<'_>,
     place: &mut P,
     packet: &PacketRef<'_>,
-) -> Result<Option<Change>, Memory>
-    requires ready { IsReady (P.around place.old) context.now.moment.0 context.now.known.now }
+) -> Result<Response, Memory>
+    requires room { HasRoom (P.around place.old) context.now.known.now }
     requires read { IsRead context.now.bytes.now packet.now }
     requires long { 40 ≤ length context.now.bytes.now }
-    requires empty { answers.old ≡ [] }
-    ensures place { ChangesClaims result claims_with
+    ensures place { ChangesClaims result claims_made
         (P.around place.old) (P.around place.new) (P.claims place.old) (P.claims place.new) (P.is_same place.old place.new) }
     ensures shows { Follows context.now result (by_destination (handing_at context.now (claim_of (P.around place.old) packet.now.head))
-        (tree packet.now) (careof_at context.now.known.now context.now.moment.0 packet.now.head.destination)) answers.old answers.new }
+        (tree packet.now) (careof_at context.now.known.now context.now.moment.0 packet.now.head.destination)) }
 {
     let head = packet.head;
     match context.known.careof(context.moment, head.destination) {
         Some(careof) => {
-            intercept(
-                alloc,
+            let mut answers = Answers::new(alloc)?;
+            let home = head.destination;
+            intercept(alloc, &mut answers, context, home, careof, head.proto)?;
+            Ok(Response {
                 answers,
-                context,
-                head.destination,
-                careof,
-                head.proto,
-            )?;
-            Ok(None)
+                change: None,
+            })
         }
-        None => take_own(alloc, answers, context, place, packet),
+        None => take_own(alloc, context, place, packet),
     }
 }
 
 /// A packet is read, and answered.
 pub fn receive<P: Place>(
     alloc: Global,
-    answers: &mut Answers,
     context: &PacketContext<'_>,
     place: &mut P,
-) -> Result<Option<Change>, Memory>
-    requires ready { IsReady (P.around place.old) context.now.moment.0 context.now.known.now }
-    requires empty { answers.old ≡ [] }
-    ensures place { ChangesClaims result claims_with
+) -> Result<Response, Memory>
+    requires room { HasRoom (P.around place.old) context.now.known.now }
+    ensures place { ChangesClaims result claims_made
         (P.around place.old) (P.around place.new) (P.claims place.old) (P.claims place.new) (P.is_same place.old place.new) }
     ensures shows { Follows context.now result
-        (receives (handing_at context.now (claim_for (P.around place.old) context.now.bytes.now)) (packet_of context.now.bytes.now)) answers.old answers.new }
+        (receives (handing_at context.now (claim_for (P.around place.old) context.now.bytes.now)) (packet_of context.now.bytes.now)) }
 {
     match read_packet(context.bytes) {
-        Err(fault) => {
-            drop_packet(answers, context.number, packet_why(fault))?;
-            Ok(None)
-        }
-        Ok(packet) => take_packet(alloc, answers, context, place, &packet),
+        Err(fault) => Response::dropped(alloc, context, packet_why(fault)),
+        Ok(packet) => take_packet(alloc, context, place, &packet),
     }
 }

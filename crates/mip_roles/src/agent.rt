@@ -11,6 +11,7 @@ ghost use Rattle.mip_roles.specs.Places.{around_seen};
 ghost use Rattle.mip_roles.specs.Roles.{or_idle, or_same};
 
 use crate::call::Call;
+use crate::call_at::CallAt;
 use crate::idle::idle;
 use crate::place::NetPlace;
 use mip_entries::Answers;
@@ -64,17 +65,16 @@ pub fn ask(
     role: &mut HomeAgent,
     alloc: Global,
     place: &mut NetPlace<'_>,
-    now: Moment,
-    call: Call<'_>,
+    at: CallAt<'_>,
 ) -> Result<Answers, Memory>
-    requires later { role.old.known.last ≤ now.0 }
-    requires early { now.0 < 2 ^ 62 }
+    requires later { role.old.known.last ≤ at.now.0 }
     ensures answers { IfOk result (λ a. a ≡
-        or_idle (λ x. answers_of (agents.transition_at role.old now.0 x).steps) (for_agent (around_seen place.old) (asked call.entry))) }
-    ensures after { OnOk result (role.new ≡ or_same role.old (agents.called role.old now.0) (for_agent (around_seen place.old) (asked call.entry))) }
-    ensures timely { role.new.known.last ≤ now.0 }
+        or_idle (λ x. answers_of (agents.transition_at role.old at.entry.now.0 x).steps) (for_agent (around_seen place.old) (asked at.entry.call))) }
+    ensures after { OnOk result (role.new ≡ or_same role.old (agents.called role.old at.entry.now.0) (for_agent (around_seen place.old) (asked at.entry.call))) }
+    ensures timely { role.new.known.last ≤ at.entry.now.0 }
 {
-    match call {
+    let now = at.now;
+    match at.call {
         Call::Take {
             number,
             shield,

@@ -3,6 +3,7 @@
 
 mod agent;
 mod call;
+mod call_at;
 mod correspondent;
 mod host;
 mod idle;
@@ -16,6 +17,7 @@ mod role;
 mod router;
 
 pub use call::Call;
+pub use call_at::CallAt;
 pub use host::Host;
 pub use kind::Kind;
 pub use laws::{

@@ -1,6 +1,6 @@
 //! A mobile of a run.
 
-ghost use Rattle.std.specs.Prelude.{◌≡◌, ◌≤◌, ◌<◌, ◌^◌, ◌==◌, ◌&&◌, true, false, IfOk, OnOk, is_some, option_copied, slice_get};
+ghost use Rattle.std.specs.Prelude.{◌≡◌, ◌≤◌, ◌==◌, ◌&&◌, true, false, IfOk, OnOk, is_some, option_copied, slice_get};
 ghost use Rattle.mip_words.specs.Addresses.{is_routable};
 ghost use Rattle.mip_bcache.specs.Seen.{rows_at};
 ghost use Rattle.mip_bulist.specs.Timers.{first_due};
@@ -17,7 +17,7 @@ ghost use Rattle.mip_roles.specs.Calls.{asked, IsAskable};
 ghost use Rattle.mip_roles.specs.Places.{around_seen};
 ghost use Rattle.mip_roles.specs.Roles.{or_idle, or_same};
 
-use crate::call::Call;
+use crate::call_at::CallAt;
 use crate::mobile;
 use crate::place::NetPlace;
 use mip_bcache::Row;
@@ -73,22 +73,20 @@ impl MobileRole {
         &mut self,
         alloc: Global,
         place: &NetPlace<'_>,
-        now: Moment,
-        call: Call<'_>,
+        at: CallAt<'_>,
     ) -> Result<Answers, Memory>
-        requires later { self.old.last.0 ≤ now.0 }
-        requires early { now.0 < 2 ^ 62 }
-        requires askable { IsAskable call }
+        requires later { self.old.last.0 ≤ at.now.0 }
+        requires askable { IsAskable at.call }
         ensures answers { IfOk result (λ a. a ≡
-            or_idle (λ x. answers_of (transition_of self.old now.0 x).steps) (for_mobile (around_seen place.now) (home_of self.old) (asked call.entry))) }
+            or_idle (λ x. answers_of (transition_of self.old at.entry.now.0 x).steps) (for_mobile (around_seen place.now) (home_of self.old) (asked at.entry.call))) }
         ensures after { OnOk result (self.new ≡
-            or_same self.old (λ x. (transition_of self.old now.0 x).known) (for_mobile (around_seen place.now) (home_of self.old) (asked call.entry))) }
-        ensures timely { self.new.last.0 ≤ now.0 }
+            or_same self.old (λ x. (transition_of self.old at.entry.now.0 x).known) (for_mobile (around_seen place.now) (home_of self.old) (asked at.entry.call))) }
+        ensures timely { self.new.last.0 ≤ at.entry.now.0 }
     {
         if self.failed {
             return Err(Memory);
         }
-        match mobile::ask(&mut self.context, alloc, place, now, call) {
+        match mobile::ask(&mut self.context, alloc, place, at) {
             Ok(answers) => Ok(answers),
             Err(Memory) => {
                 self.failed = true;

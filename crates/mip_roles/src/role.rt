@@ -8,6 +8,7 @@ ghost use Rattle.mip_roles.specs.Places.{around_seen};
 ghost use Rattle.mip_roles.specs.Roles.{last_of, answers_to, after_call, due_of, rows_of, homes_of, lives_in, is_roaming, new_role};
 
 use crate::call::Call;
+use crate::call_at::CallAt;
 use crate::kind::Kind;
 use crate::mobile_role::MobileRole;
 use crate::place::NetPlace;
@@ -133,10 +134,11 @@ impl Role {
         ensures after { OnOk result (self.new ≡ after_call (around_seen place.old) self.old now.0 (asked call.entry)) }
         ensures timely { last_of self.new ≤ now.0 }
     {
+        let at = CallAt { now, call };
         match self {
-            Role::Correspondent(role) => correspondent::ask(role, alloc, now, call),
-            Role::Agent(role) => agent::ask(role, alloc, place, now, call),
-            Role::Mobile(role) => role.ask(alloc, place, now, call),
+            Role::Correspondent(role) => correspondent::ask(role, alloc, at),
+            Role::Agent(role) => agent::ask(role, alloc, place, at),
+            Role::Mobile(role) => role.ask(alloc, place, at),
         }
     }
 

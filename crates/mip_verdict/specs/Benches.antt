@@ -8,7 +8,7 @@ use Rattle.mip_bcache.specs.Seen.{CacheSeen, floor_at, has_no_room}
 use Rattle.mip_reception.specs.declared.registration.Registration.{Registration}
 use Rattle.mip_reception.specs.Registrations.{home_of}
 use Rattle.mip_rules_correspondent.specs.Verdicts.{Bench}
-use Rattle.mip_verdict.specs.declared.rows.Judge.{Judge}
+use Rattle.mip_verdict.specs.declared.judge_context.JudgeContext.{JudgeContext}
 
 -- over the rows of a cache
 abbrev pub bench_at : Address → Life → ℕ → CacheSeen → Registration → Bench
@@ -22,7 +22,7 @@ bench_at own secrets now cache r = record {
 }
 
 -- over what a judge has
-abbrev pub bench_of : Judge → Registration → Bench
+abbrev pub bench_of : JudgeContext → Registration → Bench
 bench_of judge r = bench_at judge.own judge.secrets.now judge.moment.0 judge.cache.now r
 
 -- after these acceptances, oldest first, with room for so many homes and for so many bindings of each

@@ -1,2 +1,2 @@
 pub mod Benches
-pub mod Judging
+pub mod Keys

@@ -1,5 +1,5 @@
 ghost use Rattle.std.specs.Prelude.{◌≡◌, None};
-ghost use Rattle.mip_verdict.specs.Judging.{key_in, IsJudged};
+ghost use Rattle.mip_verdict.specs.Keys.{key_in};
 
 use mip_rules_correspondent::Verdict;
 use mip_tokens::{PreparedKbm, Witness};
@@ -11,13 +11,14 @@ pub struct Judged {
     pub verdict: Verdict,
     pub kbm: Option<PreparedKbm>,
     pub witness: Option<Witness>,
+    ghost key: { kbm ≡ key_in verdict },
 }
 
 impl Judged {
     /// A verdict that names no key.
     pub(crate) fn without_key(verdict: Verdict) -> Judged
         requires { key_in verdict ≡ None }
-        ensures { IsJudged result verdict }
+        ensures { result.verdict ≡ verdict }
     {
         Judged {
             verdict,

@@ -1,28 +1,20 @@
 //! The rows of a verdict from the nonces on, last row first.
 
-ghost use Rattle.std.specs.Prelude.{◌≡◌, ◌≤◌, ◌<◌, ◌^◌, length};
+ghost use Rattle.std.specs.Prelude.{◌≡◌, ◌≤◌};
 ghost use Rattle.mip_rules_correspondent.specs.Verdicts.{granted_of, number_of, accepted_of, by_room, by_sequence, by_key, kbm_of, by_numbers, careof_number, by_indices};
 ghost use Rattle.mip_verdict.specs.Benches.{bench_of};
-ghost use Rattle.mip_verdict.specs.Judging.{IsJudged};
 
+use crate::authorized::Authorized;
+use crate::judge_context::JudgeContext;
 use crate::judged::Judged;
-use mip_bcache::{Accepted, Cache};
+use mip_bcache::Accepted;
 use mip_mobhdr::Indices;
-use mip_nonce::{Secrets, by_index};
+use mip_nonce::by_index;
 use mip_reception::{Registration, careof_of, deletes, home_of, registered_of, status};
 use mip_rules_correspondent::Verdict;
 use mip_tokens::{Kbm, KeptKbm, authentic};
 use mip_words::constants::{LIFETIME_UNIT, MAX_RR_BINDING_LIFETIME};
-use mip_words::{Address, Moment, Why, after};
-
-/// Who judges an update, when, and over which binding cache.
-#[derive(Clone, Copy)]
-pub struct Judge<'a> {
-    pub own: Address,
-    pub secrets: &'a Secrets,
-    pub moment: Moment,
-    pub cache: &'a Cache,
-}
+use mip_words::{Moment, Why, after};
 
 /// The lifetime granted, in units of 4 s.
 fn granted_of(registration: &Registration) -> u16
@@ -37,7 +29,7 @@ fn granted_of(registration: &Registration) -> u16
 }
 
 /// The number of the binding: the one that the update names, where the cache has it. A deletion has none.
-fn number_of(judge: &Judge<'_>, registration: &Registration) -> u8
+fn number_of(judge: &JudgeContext<'_>, registration: &Registration) -> u8
     ensures { result ≡ number_of judge.now.cache.now.numbers registration.now }
 {
     match registration.number {
@@ -47,14 +39,18 @@ fn number_of(judge: &Judge<'_>, registration: &Registration) -> u8
 }
 
 /// The binding, under the nonces with these numbers.
-fn accepted_of(now: Moment, registration: &Registration, home: u64, careof: Option<u64>) -> Accepted
-    requires { now.0 < 2 ^ 62 }
-    ensures { result ≡ accepted_of now.0 registration.now home careof }
+fn accepted_of(
+    judge: &JudgeContext<'_>,
+    registration: &Registration,
+    home: u64,
+    careof: Option<u64>,
+) -> Accepted
+    ensures { result ≡ accepted_of judge.now.moment.0 registration.now home careof }
 {
     Accepted {
         careof: registered_of(registration),
         sequence: registration.sequence,
-        end: Moment(now.0 + LIFETIME_UNIT * granted_of(registration) as u64),
+        end: Moment(judge.moment.0 + LIFETIME_UNIT * granted_of(registration) as u64),
         home_nonce: home,
         careof_nonce: careof,
     }
@@ -62,14 +58,12 @@ fn accepted_of(now: Moment, registration: &Registration, home: u64, careof: Opti
 
 /// 130 where there is no room for the home.
 fn by_room(
-    judge: &Judge<'_>,
+    judge: &JudgeContext<'_>,
     registration: &Registration,
     home: u64,
     careof: Option<u64>,
     kbm: Kbm,
 ) -> Verdict
-    requires early { judge.now.moment.0 < 2 ^ 62 }
-    requires later { judge.now.cache.now.last ≤ judge.now.moment.0 }
     ensures { result ≡ by_room (bench_of judge.now registration.now) registration.now home careof kbm }
 {
     if !judge.cache.has_room(judge.moment, home_of(registration)) {
@@ -82,7 +76,7 @@ fn by_room(
     Verdict::Accept {
         home: home_of(registration),
         number: number_of(judge, registration),
-        accepted: accepted_of(judge.moment, registration, home, careof),
+        accepted: accepted_of(judge, registration, home, careof),
         granted: granted_of(registration),
         kbm,
     }
@@ -90,14 +84,12 @@ fn by_room(
 
 /// 135 where the update does not come after the sequence that is kept.
 fn by_sequence(
-    judge: &Judge<'_>,
+    judge: &JudgeContext<'_>,
     registration: &Registration,
     home: u64,
     careof: Option<u64>,
     kbm: Kbm,
 ) -> Verdict
-    requires early { judge.now.moment.0 < 2 ^ 62 }
-    requires later { judge.now.cache.now.last ≤ judge.now.moment.0 }
     ensures { let b = bench_of judge.now registration.now in result ≡ by_sequence b registration.now home careof kbm b.floor }
 {
     match judge.cache.floor(judge.moment, home_of(registration)) {
@@ -109,19 +101,14 @@ fn by_sequence(
 }
 
 /// Silence where the authenticator is not that of the key.
-fn by_key(
-    judge: &Judge<'_>,
-    registration: &Registration,
-    message: &[u8],
-    home: u64,
-    careof: Option<u64>,
-    key: KeptKbm,
-) -> Judged
-    requires early { judge.now.moment.0 < 2 ^ 62 }
-    requires later { judge.now.cache.now.last ≤ judge.now.moment.0 }
-    requires long { 18 ≤ length message.now }
-    ensures { IsJudged result (by_key (bench_of judge.now registration.now) registration.now message.now home careof key.kbm) }
+fn by_key(update: &Authorized<'_>, home: u64, careof: Option<u64>, key: KeptKbm) -> Judged
+    ensures { result.verdict ≡ by_key (bench_of update.now.judge.now update.now.registration.now) update.now.registration.now update.now.message.now home careof key.kbm }
 {
+    let Authorized {
+        judge,
+        registration,
+        message,
+    } = *update;
     let bound = registered_of(registration);
     if !authentic(key.key(), bound, judge.own, message) {
         return Judged::without_key(Verdict::Refuse(Why::Authenticator));
@@ -136,7 +123,12 @@ fn by_key(
 }
 
 /// The key: of the home token alone where the binding ends, else of both tokens.
-fn key_of(judge: &Judge<'_>, registration: &Registration, home: u64, careof: Option<u64>) -> KeptKbm
+fn key_of(
+    judge: &JudgeContext<'_>,
+    registration: &Registration,
+    home: u64,
+    careof: Option<u64>,
+) -> KeptKbm
     ensures { result.kbm ≡ kbm_of (bench_of judge.now registration.now) registration.now home careof }
 {
     let secrets = judge.secrets;
@@ -151,33 +143,24 @@ fn key_of(judge: &Judge<'_>, registration: &Registration, home: u64, careof: Opt
 }
 
 /// 136, 137 or 138 where an index names no valid nonce.
-fn by_numbers(
-    judge: &Judge<'_>,
-    registration: &Registration,
-    message: &[u8],
-    home: Option<u64>,
-    careof: Option<Option<u64>>,
-) -> Judged
-    requires early { judge.now.moment.0 < 2 ^ 62 }
-    requires later { judge.now.cache.now.last ≤ judge.now.moment.0 }
-    requires long { 18 ≤ length message.now }
-    ensures { IsJudged result (by_numbers (bench_of judge.now registration.now) registration.now message.now home careof) }
+fn by_numbers(update: &Authorized<'_>, home: Option<u64>, careof: Option<Option<u64>>) -> Judged
+    ensures { result.verdict ≡ by_numbers (bench_of update.now.judge.now update.now.registration.now) update.now.registration.now update.now.message.now home careof }
 {
     let status = match (home, careof) {
         (None, None) => status::EXPIRED_NONCES,
         (None, Some(_)) => status::EXPIRED_HOME_NONCE,
         (Some(_), None) => status::EXPIRED_CAREOF_NONCE,
         (Some(home), Some(careof)) => {
-            let key = key_of(judge, registration, home, careof);
-            return by_key(judge, registration, message, home, careof, key);
+            let key = key_of(update.judge, update.registration, home, careof);
+            return by_key(update, home, careof, key);
         }
     };
-    Judged::without_key(deny(status, registration.sequence, None))
+    Judged::without_key(deny(status, update.registration.sequence, None))
 }
 
 /// The number of the care-of nonce; where the binding ends its index is ignored.
 fn careof_number(
-    judge: &Judge<'_>,
+    judge: &JudgeContext<'_>,
     registration: &Registration,
     indices: Indices,
 ) -> Option<Option<u64>>
@@ -191,18 +174,15 @@ fn careof_number(
 }
 
 /// Silence where the Nonce Indices are missing.
-pub fn by_indices(judge: &Judge<'_>, registration: &Registration, message: &[u8]) -> Judged
-    requires early { judge.now.moment.0 < 2 ^ 62 }
-    requires later { judge.now.cache.now.last ≤ judge.now.moment.0 }
-    requires long { 18 ≤ length message.now }
-    ensures { IsJudged result (by_indices (bench_of judge.now registration.now) registration.now message.now registration.now.nonces) }
+pub fn by_indices(update: &Authorized<'_>) -> Judged
+    ensures { let r = update.now.registration.now in result.verdict ≡ by_indices (bench_of update.now.judge.now r) r update.now.message.now r.nonces }
 {
-    match registration.nonces {
+    match update.registration.nonces {
         None => Judged::without_key(Verdict::Refuse(Why::Options)),
         Some(indices) => {
-            let home = by_index(judge.moment, indices.home);
-            let careof = careof_number(judge, registration, indices);
-            by_numbers(judge, registration, message, home, careof)
+            let home = by_index(update.judge.moment, indices.home);
+            let careof = careof_number(update.judge, update.registration, indices);
+            by_numbers(update, home, careof)
         }
     }
 }

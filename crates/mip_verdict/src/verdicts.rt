@@ -6,10 +6,11 @@ ghost use Rattle.mip_bcache.specs.Seen.{StandsFor};
 ghost use Rattle.mip_reception.specs.Registrations.{IsUpdate, registration_in};
 ghost use Rattle.mip_rules_correspondent.specs.Verdicts.{verdict};
 ghost use Rattle.mip_verdict.specs.Benches.{bench_at, bench_of, bench_after};
-ghost use Rattle.mip_verdict.specs.Judging.{IsJudged};
 
+use crate::authorized::Authorized;
+use crate::judge_context::JudgeContext;
 use crate::judged::Judged;
-use crate::rows::{Judge, by_indices, deny};
+use crate::rows::{by_indices, deny};
 use mip_bcache::Cache;
 use mip_entries::UpdateSeen;
 use mip_nonce::Secrets;
@@ -35,43 +36,32 @@ pub fn judge(
         → IsSomeAnd (registration_in update.now.source update.now.home update.now.message.now)
         (λ r. result ≡ verdict (bench_after own secrets.now now.0 cache.now.limit cache.now.numbers past r) r update.now.message.now) }
 {
-    let registration = registration_in(update);
-    verdict(now, secrets, cache, own, &registration, update.message).verdict
-}
-
-/// What becomes of an update that was read, with the key that the verdict names.
-pub fn verdict(
-    now: Moment,
-    secrets: &Secrets,
-    cache: &Cache,
-    own: Address,
-    registration: &Registration,
-    message: &[u8],
-) -> Judged
-    requires early { now.0 < 2 ^ 62 }
-    requires later { cache.now.last ≤ now.0 }
-    requires read { registration_in registration.now.source registration.now.home_option message.now ≡ Some registration.now }
-    ensures found { IsJudged result (verdict (bench_at own secrets.now now.0 cache.now registration.now) registration.now message.now) }
-    ensures answers { (past : List Acceptance) → StandsFor cache.now past
-        → IsJudged result (verdict (bench_after own secrets.now now.0 cache.now.limit cache.now.numbers past registration.now) registration.now message.now) }
-{
-    let judge = Judge {
+    let judge = JudgeContext {
         own,
         secrets,
         moment: now,
         cache,
     };
-    from_the_first(&judge, registration, message)
+    let registration = registration_in(update);
+    verdict(&judge, &registration, update.message).verdict
+}
+
+/// What becomes of an update that was read, with the key that the verdict names.
+pub fn verdict(judge: &JudgeContext<'_>, registration: &Registration, message: &[u8]) -> Judged
+    requires read { registration_in registration.now.source registration.now.home_option message.now ≡ Some registration.now }
+    ensures found { result.verdict ≡ verdict (bench_of judge.now registration.now) registration.now message.now }
+    ensures answers { let j = judge.now in (past : List Acceptance) → StandsFor j.cache.now past
+        → result.verdict ≡ verdict (bench_after j.own j.secrets.now j.moment.0 j.cache.now.limit j.cache.now.numbers past registration.now) registration.now message.now }
+{
+    from_the_first(judge, registration, message)
 }
 
 /// Before the nonces: 131 where it is for a home agent, silence where an address is not routable or there is
 /// no authenticator.
 #[tactic(auto, unfolding(mip_rules_correspondent::specs::Verdicts::verdict), using(mip_reception::proofs::Updates::authorized_is_long))]
-fn from_the_first(judge: &Judge<'_>, registration: &Registration, message: &[u8]) -> Judged
-    requires early { judge.now.moment.0 < 2 ^ 62 }
-    requires later { judge.now.cache.now.last ≤ judge.now.moment.0 }
+fn from_the_first(judge: &JudgeContext<'_>, registration: &Registration, message: &[u8]) -> Judged
     requires read { registration_in registration.now.source registration.now.home_option message.now ≡ Some registration.now }
-    ensures { IsJudged result (verdict (bench_of judge.now registration.now) registration.now message.now) }
+    ensures { result.verdict ≡ verdict (bench_of judge.now registration.now) registration.now message.now }
 {
     if registration.for_agent {
         let status = status::HOME_REGISTRATION_NOT_SUPPORTED;
@@ -83,5 +73,9 @@ fn from_the_first(judge: &Judge<'_>, registration: &Registration, message: &[u8]
     if !registration.authorized {
         return Judged::without_key(Verdict::Refuse(Why::Options));
     }
-    by_indices(judge, registration, message)
+    by_indices(&Authorized {
+        judge,
+        registration,
+        message,
+    })
 }

@@ -1,30 +1,27 @@
-use Rattle.std.proofs.Common.{rules, List, false, sym, subst, ap, ◌∙◌}
+use Rattle.std.proofs.Common.{rules, false, sym, subst, ap, ◌∙◌}
 use Rattle.std.proofs.lemmas.Result.{IfOk-weaker}
 use Rattle.std.specs.Option.{option_map}
-use Rattle.std.specs.Result.{IfOk}
 use Rattle.mip_words.specs.declared.address.Address.{Address}
 use Rattle.mip_reception.specs.Registrations.{home_of}
 use Rattle.mip_outside.specs.declared.claim.Claim.{Claim}
 use Rattle.mip_outside.specs.Places.{is_held, with_claim, claim_in}
-use Rattle.mip_entries.specs.declared.answer.Answer.{Answer}
 use Rattle.mip_rules_agent.specs.declared.home_verdict.HomeVerdict.{HomeVerdict}
 use Rattle.mip_rules_agent.specs.Verdicts.{by_claim}
 use Rattle.mip_rules_agent.specs.Rules.{judged}
 use Rattle.mip_homeagent.specs.Changes.{claims_held, holding_by}
-use Rattle.mip_homeagent.specs.Showing.{Leads, opened}
-use Rattle.mip_homeagent.specs.Contexts.{handing_at}
+use Rattle.mip_homeagent.specs.Contexts.{handing_at, Follows}
 use Rattle.mip_homeagent.proofs.Befores.{claims_given, claims_denied}
 use Rattle.mip_homeagent.proofs.update.claim_home.Goals as goal
 
 pub returns-then-is_held-clause-place : goal.returns-then-is_held-clause-place
 returns-then-is_held-clause-place g c =
-    let r = c.args.registration.now in
+    let r = c.args.update.now.registration.now in
     let old = g.P.Place.claims c.args.place.now in
     record {
-      claims = claims_given c.args.bench.now r c.in_ok-change.change c.claim-claim.result (home_of r) old (g.P.Place.claims c.claim-claim.new.self)
+      claims = claims_given c.args.bench.now r c.in_ok-response.response.change c.claim-claim.result (home_of r) old (g.P.Place.claims c.claim-claim.new.self)
           (sym c.is_held.ensures ∙ c.if-is_held.true) c.requires.lasts
           (c.claim-claim.ensures.claims ∙ ap (λ (a : Address). option_map (with_claim (is_held c.claim-claim.result) a.0) old) c.home_of.ensures)
-          (c.in_ok-change.ensures.claims ∙ ap (λ (v : HomeVerdict). claims_held (holding_by false r v) (home_of r)) c.by_claim-accepted.ensures);
+          (c.in_ok-response.ensures.claims ∙ ap (λ (v : HomeVerdict). claims_held (holding_by false r v) (home_of r)) c.by_claim-accepted.ensures);
       left = search rules;
       around = search rules;
       same = search rules;
@@ -32,13 +29,13 @@ returns-then-is_held-clause-place g c =
 
 pub returns-else-is_held-clause-place : goal.returns-else-is_held-clause-place
 returns-else-is_held-clause-place g c =
-    let r = c.args.registration.now in
+    let r = c.args.update.now.registration.now in
     let old = g.P.Place.claims c.args.place.now in
     let denied = sym c.is_held.ensures ∙ c.if-is_held.false in
     let is = c.claim-claim.ensures.claims ∙ ap (λ (a : Address). option_map (with_claim (is_held c.claim-claim.result) a.0) old) c.home_of.ensures in
     record {
-      claims = IfOk-weaker c.deny_claim.result _ _ (λ change with.
-          claims_denied c.args.bench.now r change c.claim-claim.result (home_of r) old (g.P.Place.claims c.claim-claim.new.self) denied is with)
+      claims = IfOk-weaker c.deny_claim.result _ _ (λ response with.
+          claims_denied c.args.bench.now r response.change c.claim-claim.result (home_of r) old (g.P.Place.claims c.claim-claim.new.self) denied is with)
           c.deny_claim.ensures.claims;
       left = search rules;
       around = search rules;
@@ -47,13 +44,9 @@ returns-else-is_held-clause-place g c =
 
 pub returns-else-is_held-clause-shows : goal.returns-else-is_held-clause-shows
 returns-else-is_held-clause-shows g c = λ asked.
-    let d = c.args.context.now in
-    let r = c.args.registration.now in
-    let b = c.args.bench.now in
-    let now = d.moment.0 in
-    let k = opened now d.known.now in
+    let d = c.args.update.now.context.now in
+    let r = c.args.update.now.registration.now in
     let around = g.P.Place.around c.args.place.now in
-    subst (λ (claim : Claim). IfOk c.deny_claim.result (λ change. Leads (judged (handing_at d asked) r false (by_claim b r claim)) now k c.args.answers.now c.deny_claim.new.answers change))
+    subst (λ (claim : Claim). Follows d c.deny_claim.result (judged (handing_at d asked) r false (by_claim c.args.bench.now r claim)))
     (c.claim-claim.ensures.answer ∙ ap (λ (a : Address). claim_in around a.0) c.home_of.ensures)
-    (subst (λ (old : List Answer). IfOk c.deny_claim.result (λ change. Leads (judged (handing_at d asked) r false (by_claim b r c.claim-claim.result)) now k old c.deny_claim.new.answers change)) (sym c.requires.empty)
-    (c.deny_claim.ensures.shows asked))
+    (c.deny_claim.ensures.shows asked)

@@ -2,13 +2,10 @@ use Rattle.std.proofs.Common.{rules, List, ap, sym, subst, ◌∙◌}
 use Rattle.std.specs.Prelude.{true, ◌≡◌, ◌⊎◌}
 use Rattle.std.specs.List.{list_any}
 use Rattle.mip_entries.specs.declared.answer.Answer.{Answer}
-use Rattle.mip_ipv6.specs.Reading.{packet_of}
 use Rattle.mip_rules_agent.specs.Known.{Known}
 use Rattle.mip_rules_agent.specs.Calls as calls
 use Rattle.mip_rules_agent.specs.Calls.{Call, claim_for}
 use Rattle.mip_rules_agent.specs.Transitions.{Stands, with_transition}
-use Rattle.mip_rules_agent.specs.Rules.{receives}
-use Rattle.mip_rules_agent.specs.Doing.{handing}
 use Rattle.mip_rules_agent.specs.Seen.{AgentSeen, transition_at}
 use Rattle.mip_rules_agent.proofs.Calls.{call-stands}
 use Rattle.mip_rules_agent.proofs.Moments.{call-last}
@@ -20,7 +17,7 @@ use Rattle.mip_rules_agent.specs.Refusing.{KeepsTables}
 use Rattle.mip_rules_agent.specs.Claims.{claims_by}
 use Rattle.mip_reception.specs.Refusing.{refuses}
 use Rattle.mip_homeagent.specs.Changes.{unclaimed, with_change, claims_with}
-use Rattle.mip_homeagent.specs.Showing.{Shows, Leads, opened}
+use Rattle.mip_homeagent.specs.Showing.{Shows, opened}
 use Rattle.mip_homeagent.proofs.Befores.{claims_told, unchanged}
 use Rattle.mip_homeagent.proofs.CallTransitions.{Ends, ends_shown, take_shown}
 use Rattle.mip_homeagent.proofs.agent.HomeAgent.take.Given.{Over}
@@ -29,16 +26,15 @@ use Rattle.mip_homeagent.proofs.agent.HomeAgent.take.Goals as goal
 abbrev call : (g : Over) → goal.After-apply_change g → Call
 call g c = calls.Take c.args.number c.args.shield c.args.packet.now (claim_for (g.P.Place.around c.args.place.now) c.args.packet.now)
 
-ended : (g : Over) (c : goal.After-apply_change g) → Ends c.args.self.now (record { identity = c.self.inside.identity; known = c.apply_change.new.self }) c.receive.new.answers c.args.now.0 (call g c) (claims_with c.in_ok-change.change)
+ended : (g : Over) (c : goal.After-apply_change g) → Ends c.args.self.now (record { identity = c.self.inside.identity; known = c.apply_change.new.self }) c.in_ok-response.response.answers c.args.now.0 (call g c) (claims_with c.in_ok-response.response.change)
 ended g c =
     let now = c.args.now.0 in
     let inside : AgentSeen = record { identity = c.self.inside.identity; known = c.self.inside.known } in
-    let change = c.in_ok-change.change in
-    let leads = subst (λ (begins : List Answer). Leads (receives (handing inside.identity now (opened now inside.known) c.args.number c.args.shield c.args.packet.now (claim_for (g.P.Place.around c.args.place.now) c.args.packet.now)) (packet_of c.args.packet.now)) now (opened now inside.known) begins c.receive.new.answers change)
-    c.in_ok-answers.ensures c.in_ok-change.ensures.shows in
-    let shows = subst (λ (s : AgentSeen). Shows now (with_change change (opened now s.known)) (claims_with change) c.receive.new.answers (transition_at s now (call g c))) c.self.view_is
-    (take_shown inside now c.args.number c.args.shield c.args.packet.now (claim_for (g.P.Place.around c.args.place.now) c.args.packet.now) change c.receive.new.answers leads) in
-    ends_shown c.args.self.now (record { identity = c.self.inside.identity; known = c.apply_change.new.self }) now (call g c) (with_change change (opened now c.args.self.now.known)) (claims_with change) c.receive.new.answers shows
+    let change = c.in_ok-response.response.change in
+    let leads = c.in_ok-response.ensures.shows in
+    let shows = subst (λ (s : AgentSeen). Shows now (with_change change (opened now s.known)) (claims_with change) c.in_ok-response.response.answers (transition_at s now (call g c))) c.self.view_is
+    (take_shown inside now c.args.number c.args.shield c.args.packet.now (claim_for (g.P.Place.around c.args.place.now) c.args.packet.now) change c.in_ok-response.response.answers leads) in
+    ends_shown c.args.self.now (record { identity = c.self.inside.identity; known = c.apply_change.new.self }) now (call g c) (with_change change (opened now c.args.self.now.known)) (claims_with change) c.in_ok-response.response.answers shows
     (ap (λ (k : Known). record { identity = inside.identity; known = k }) c.apply_change.ensures ∙ ap (λ (s : AgentSeen). record { identity = s.identity; known = with_change change (opened now s.known) }) c.self.view_is)
 
 pub returns-clause-answers : goal.returns-clause-answers
@@ -55,7 +51,7 @@ returns-clause-stands g c = λ serves past stands.
 
 pub returns-clause-place : goal.returns-clause-place
 returns-clause-place g c = record {
-  claims = c.in_ok-change.ensures.place.claims ∙ claims_told (g.P.Place.claims c.args.place.now) _ _ (ended g c).claimed;
+  claims = c.in_ok-response.ensures.place.claims ∙ claims_told (g.P.Place.claims c.args.place.now) _ _ (ended g c).claimed;
   left = search rules;
   around = search rules;
   same = search rules;
@@ -72,7 +68,7 @@ returns-clause-refused g c = λ told.
     let claim = claim_for (g.P.Place.around c.args.place.now) c.args.packet.now in
     let keeps = refused-call s.identity s.known c.args.now.0 c.args.number c.args.shield c.args.packet.now claim (subst (λ (l : List Answer). list_any refuses l ≡ true) (ended g c).answered told) in (
       subst (λ (s' : AgentSeen). KeepsTables s.known s'.known) (sym (ended g c).after) keeps.0,
-      c.in_ok-change.ensures.place.claims ∙ claims_told (g.P.Place.claims c.args.place.now) _ _ (ended g c).claimed ∙ claims_told (g.P.Place.claims c.args.place.now) (claims_by (transition_at s c.args.now.0 (call g c)).steps) unclaimed (λ claims. sym (keeps.1 claims)) ∙ sym (unchanged (g.P.Place.claims c.args.place.now)),
+      c.in_ok-response.ensures.place.claims ∙ claims_told (g.P.Place.claims c.args.place.now) _ _ (ended g c).claimed ∙ claims_told (g.P.Place.claims c.args.place.now) (claims_by (transition_at s c.args.now.0 (call g c)).steps) unclaimed (λ claims. sym (keeps.1 claims)) ∙ sym (unchanged (g.P.Place.claims c.args.place.now)),
     )
 
 pub returns-clause-registered : goal.returns-clause-registered

@@ -1,0 +1,23 @@
+-- The answers of a call, as C fetches them.
+use Rattle.std.specs.Prelude.{◌≡◌, ℕ, List, Option, Some, None}
+use Rattle.mip_entries.specs.declared.answer.Answer.{Answer}
+use Rattle.mip_c_words.specs.declared.answer_fields.AnswerFields.{AnswerFields}
+use Rattle.mip_c_words.specs.declared.outbox.Outbox.{Outbox}
+use Rattle.mip_c_words.specs.Answered.{fields_of, bytes_of}
+use Rattle.mip_c_words.specs.Giving.{Keeps, Tells, given_after}
+
+-- the answers of a call, of which none was fetched yet
+abbrev pub IsFilled : Outbox → List Answer → Type 0
+IsFilled o answers = (o.answers ≡ answers) × (o.given ≡ 0)
+
+-- the same answers, but for how many were fetched
+abbrev pub HasGiven : Outbox → Outbox → ℕ → Type 0
+HasGiven o p given = (p.answers ≡ o.answers) × (p.given ≡ given)
+
+-- the next answer is told, or that none is left
+abbrev pub TellsNext : Option Answer → Outbox → Outbox → ℕ → AnswerFields → AnswerFields → List ℕ → List ℕ → ℕ → ℕ → Type 0
+TellsNext None o p status fields_old fields_new old new size_old size_new =
+    (status ≡ 15) × (p ≡ o) × (fields_new ≡ fields_old) × Keeps old new size_old size_new
+TellsNext (Some a) o p status fields_old fields_new old new size_old size_new =
+    (fields_new ≡ fields_of a) × Tells 0 (bytes_of a) status old new size_new
+    × HasGiven o p (given_after (bytes_of a) old o.given)
