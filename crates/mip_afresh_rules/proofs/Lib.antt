@@ -1,3 +1,3 @@
 pub mod ShowingLaws
 mod Asked
-mod Received
+mod ReceivedLaws

@@ -6,7 +6,7 @@ abbrev pub bench_at : Who → Bench
 bench_at w = record {
   own = w.me.now.own;
   secrets = w.me.now.secrets;
-  now = w.moment.0;
+  now = w.at.moment.0;
   floor = w.kept.floor;
   full = w.kept.is_full;
   numbers = w.kept.numbers;

@@ -17,8 +17,10 @@ ghost use Rattle.mip_afresh_rules.specs.Keeping.{IsKept, IsKeptFor};
 ghost use Rattle.mip_afresh_rules.specs.Showing.{Goes};
 
 use crate::answering::{idle, send_packet};
+use crate::early::Early;
 use crate::kept::Kept;
 use crate::part::answer_message;
+use crate::passed::Passed;
 use crate::receiving::receive;
 use crate::who::Who;
 use mip_entries::Answers;
@@ -45,7 +47,7 @@ pub fn take(
     let mut answers = Answers::new(alloc)?;
     let who = Who {
         me,
-        moment: now,
+        at: Early { moment: now },
         number,
         kept,
     };
@@ -74,11 +76,15 @@ pub fn take_part(
     let mut answers = Answers::new(alloc)?;
     let who = Who {
         me,
-        moment: now,
+        at: Early { moment: now },
         number,
         kept,
     };
-    answer_message(alloc, &mut answers, &who, packet, message)?;
+    let passed = Passed {
+        packet: *packet,
+        message: *message,
+    };
+    answer_message(alloc, &mut answers, &who, &passed)?;
     Ok(answers)
 }
 

@@ -4,6 +4,7 @@ ghost use Rattle.std.specs.Prelude.{◌≡◌, ◌<◌, ◌-◌, ◌^◌, ◌==�
 ghost use Rattle.mip_words.specs.Steps.{Gives};
 ghost use Rattle.mip_ipv6.specs.Packet.{packet as tree};
 ghost use Rattle.mip_mobhdr.specs.Said.{said};
+ghost use Rattle.mip_packets.specs.Says.{message_in};
 ghost use Rattle.mip_packets.specs.Updates.{IsReadUpdate};
 ghost use Rattle.mip_reception.specs.Checks.{silent, fault_reply, message_at, is_probe, is_update, with_home, checked};
 
@@ -43,6 +44,7 @@ fn fault_reply(place: u32, home: Option<Address>, fault: Fault) -> Reply
 fn message_at<'a>(packet: &PacketRef<'a>) -> Result<Option<Message<'a>>, Refusal>
     requires { packet.now.place < 2 ^ 32 - 1 }
     ensures exact { Gives (option_map said) result (message_at packet.now.place (tree packet.now)) }
+    ensures inside { IfOk result (λ m. message_in (tree packet.now) ≡ option_map said m) }
     ensures update { IfOk result (λ m. IsReadUpdate (option_map said m) packet.now.body.now) }
 {
     let head = &packet.head;
@@ -107,15 +109,17 @@ pub fn check<'a>(
 ) -> Result<Option<Message<'a>>, Refusal>
     requires { packet.now.place < 2 ^ 32 - 1 }
     ensures exact { Gives (option_map said) result (checked standing packet.now.place (tree packet.now)) }
+    ensures inside { IfOk result (λ m. message_in (tree packet.now) ≡ option_map said m) }
     ensures update { IfOk result (λ m. IsReadUpdate (option_map said m) packet.now.body.now) }
 {
     if !standing.is_mine {
         return Err(silent(Why::Address));
     }
-    if packet.head.route.is_some() && !standing.takes_route {
+    let head = &packet.head;
+    if head.route.is_some() && !standing.takes_route {
         return Err(silent(Why::Route));
     }
     let message = message_at(packet)?;
-    allow_home(standing.holds, packet.head.home, &message)?;
+    allow_home(standing.holds, head.home, &message)?;
     Ok(message)
 }

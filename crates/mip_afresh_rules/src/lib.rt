@@ -4,10 +4,15 @@
 
 mod answering;
 mod asking;
+mod authorized;
+mod binding_update;
 mod calls;
 mod checking;
+mod early;
 mod kept;
 mod part;
+mod passed;
+mod received;
 mod receiving;
 mod rows;
 mod subject;
@@ -22,6 +27,7 @@ pub use calls::{refresh, send, take, take_part};
 pub use checking::check;
 pub use kept::Kept;
 pub use part::is_for_part;
+pub use received::Received;
 pub use subject::{Subject, subject_of};
 pub use who::Who;
 pub use wording::packet_why;

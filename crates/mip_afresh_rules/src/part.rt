@@ -1,15 +1,15 @@
 //! What is for a correspondent: test inits, updates and data (RFC 6275 sections 9.3.1, 9.4 and 9.5).
 
-ghost use Rattle.std.specs.Prelude.{◌≡◌, ◌<◌, ◌^◌, IsTrue, IsFalse, Some, option_map};
-ghost use Rattle.mip_ipv6.specs.Packet.{packet as tree, is_routable_if_any};
+ghost use Rattle.std.specs.Prelude.{◌≡◌, option_map};
+ghost use Rattle.mip_ipv6.specs.Packet.{packet as tree};
 ghost use Rattle.mip_mobhdr.specs.Said.{said};
-ghost use Rattle.mip_packets.specs.Updates.{IsReadUpdate};
-ghost use Rattle.mip_reception.specs.Checks.{is_probe};
 ghost use Rattle.mip_rules_correspondent.specs.Rules.{hands_up, is_data, is_for_part, by_message};
 ghost use Rattle.mip_afresh_rules.specs.Showing.{Goes, GoesBy};
 
 use crate::answering::hand_up;
 use crate::asking::asked_by;
+use crate::binding_update::BindingUpdate;
+use crate::passed::Passed;
 use crate::tests::{answer_careof_init, answer_home_init};
 use crate::update::take_update;
 use crate::who::Who;
@@ -48,7 +48,7 @@ fn hand_up_data(
     who: &Who<'_>,
     packet: &PacketRef<'_>,
 ) -> Result<(), Memory>
-    ensures { Goes who.now.moment.0 result (hands_up who.now.number (tree packet.now)) answers.old answers.new }
+    ensures { Goes who.now.at.moment.0 result (hands_up who.now.number (tree packet.now)) answers.old answers.new }
 {
     let head = packet.head;
     let source = head.sender();
@@ -64,44 +64,20 @@ fn hand_up_data(
     )
 }
 
-/// An update is taken; nothing is done about another message that is no test init.
+/// What is done about a packet and its message, if it has one: nothing about a message that is neither a test init nor an update.
 #[tactic(auto, using(crate::proofs::Asked::asked_read, crate::proofs::Asked::taken_asked))]
-fn answer_update(
-    alloc: Global,
-    answers: &mut Answers,
-    who: &Who<'_>,
-    packet: &PacketRef<'_>,
-    message: &Message<'_>,
-) -> Result<(), Memory>
-    requires early { who.now.moment.0 < 2 ^ 62 }
-    requires plain { IsTrue (is_routable_if_any packet.now.head.home) }
-    requires read { IsReadUpdate (Some (said message.now)) packet.now.body.now }
-    requires other { IsFalse (is_probe (Some (said message.now))) }
-    ensures { GoesBy who.now.kept who.now.moment.0 packet.now.head.source packet.now.head.home result
-        (by_message who.now.me.now who.now.number (tree packet.now) (Some (said message.now))) answers.old answers.new }
-{
-    match asked_by(packet.head.source, packet.head.home, message) {
-        Some(asked) => take_update(alloc, answers, who, &asked, packet.body),
-        None => Ok(()),
-    }
-}
-
-/// What is done about a packet and its message, if it has one.
 pub fn answer_message(
     alloc: Global,
     answers: &mut Answers,
     who: &Who<'_>,
-    packet: &PacketRef<'_>,
-    message: &Option<Message<'_>>,
+    passed: &Passed<'_>,
 ) -> Result<(), Memory>
-    requires early { who.now.moment.0 < 2 ^ 62 }
-    requires plain { IsTrue (is_routable_if_any packet.now.head.home) }
-    requires read { IsReadUpdate (option_map said message.now) packet.now.body.now }
-    ensures { GoesBy who.now.kept who.now.moment.0 packet.now.head.source packet.now.head.home result
-        (by_message who.now.me.now who.now.number (tree packet.now) (option_map said message.now)) answers.old answers.new }
+    ensures { GoesBy who.now.kept who.now.at.moment.0 passed.now.packet.head.source passed.now.packet.head.home result
+        (by_message who.now.me.now who.now.number (tree passed.now.packet) (option_map said passed.now.message)) answers.old answers.new }
 {
+    let packet = &passed.packet;
     let source = packet.head.source;
-    match message {
+    match &passed.message {
         None => hand_up_data(alloc, answers, who, packet),
         Some(Message::HomeInit { cookie, .. }) => {
             answer_home_init(alloc, answers, who, source, *cookie)
@@ -109,6 +85,16 @@ pub fn answer_message(
         Some(Message::CareofInit { cookie, .. }) => {
             answer_careof_init(alloc, answers, who, source, *cookie)
         }
-        Some(other) => answer_update(alloc, answers, who, packet, other),
+        Some(other) => match asked_by(source, packet.head.home, other) {
+            Some(registration) => {
+                let message = packet.body;
+                let update = BindingUpdate {
+                    registration,
+                    message,
+                };
+                take_update(alloc, answers, who, &update)
+            }
+            None => Ok(()),
+        },
     }
 }

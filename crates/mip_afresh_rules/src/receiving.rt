@@ -1,23 +1,22 @@
 //! What a correspondent does about a packet (RFC 6275 sections 9.2 to 9.5).
 
-ghost use Rattle.std.specs.Prelude.{◌≡◌, ◌<◌, ◌-◌, ◌^◌, ℕ, List, IsTrue, Ok, option_map};
-ghost use Rattle.mip_words.specs.declared.address.Address.{Address};
-ghost use Rattle.mip_ipv6.specs.Packet.{packet as tree, is_routable_if_any};
+ghost use Rattle.std.specs.Prelude.{◌≡◌, option_map};
+ghost use Rattle.mip_ipv6.specs.Packet.{packet as tree};
 ghost use Rattle.mip_ipv6.specs.Reading.{packet_of};
 ghost use Rattle.mip_mobhdr.specs.Said.{said};
-ghost use Rattle.mip_packets.specs.Updates.{IsReadUpdate};
-ghost use Rattle.mip_rules_correspondent.specs.Rules.{refuses, other_why, by_role, place_in, receives};
+ghost use Rattle.mip_rules_correspondent.specs.Rules.{refuses, other_why, by_role, receives};
 ghost use Rattle.mip_afresh_rules.specs.Keeping.{standing_at};
 ghost use Rattle.mip_afresh_rules.specs.Showing.{Goes, GoesBy, GoesByHead};
 
 use crate::answering::{drop_packet, send_packet};
 use crate::checking::check;
 use crate::part::{answer_message, is_for_part};
+use crate::passed::Passed;
+use crate::received::Received;
 use crate::who::Who;
 use crate::wording::packet_why;
 use mip_entries::Answers;
-use mip_ipv6::{Head, PacketRef, read_packet};
-use mip_mobhdr::Message;
+use mip_ipv6::{Head, read_packet};
 use mip_reception::{AddressMatch, Refusal, write_reply};
 use mip_words::protocol::{ICMPV6, NO_NEXT_HEADER};
 use mip_words::{Address, Memory, Why};
@@ -44,7 +43,7 @@ fn refuse(
     source: Address,
     refusal: Refusal,
 ) -> Result<(), Memory>
-    ensures { Goes who.now.moment.0 result (refuses who.now.me.now who.now.number bytes.now source refusal) answers.old answers.new }
+    ensures { Goes who.now.at.moment.0 result (refuses who.now.me.now who.now.number bytes.now source refusal) answers.old answers.new }
 {
     drop_packet(answers, who.number, refusal.why)?;
     match write_reply(alloc, who.me.own, source, bytes, refusal.reply)? {
@@ -72,19 +71,16 @@ fn answer_role(
     alloc: Global,
     answers: &mut Answers,
     who: &Who<'_>,
-    packet: &PacketRef<'_>,
-    message: &Option<Message<'_>>,
+    passed: &Passed<'_>,
 ) -> Result<(), Memory>
-    requires early { who.now.moment.0 < 2 ^ 62 }
-    requires plain { IsTrue (is_routable_if_any packet.now.head.home) }
-    requires read { IsReadUpdate (option_map said message.now) packet.now.body.now }
-    ensures { GoesBy who.now.kept who.now.moment.0 packet.now.head.source packet.now.head.home result
-        (by_role who.now.me.now who.now.number (tree packet.now) (option_map said message.now)) answers.old answers.new }
+    ensures { GoesBy who.now.kept who.now.at.moment.0 passed.now.packet.head.source passed.now.packet.head.home result
+        (by_role who.now.me.now who.now.number (tree passed.now.packet) (option_map said passed.now.message)) answers.old answers.new }
 {
-    if !is_for_part(packet.head.proto, message) {
-        return drop_packet(answers, who.number, other_why(packet.head.proto));
+    let proto = passed.packet.head.proto;
+    if !is_for_part(proto, &passed.message) {
+        return drop_packet(answers, who.number, other_why(proto));
     }
-    answer_message(alloc, answers, who, packet, message)
+    answer_message(alloc, answers, who, passed)
 }
 
 /// A packet that was read is checked, and answered.
@@ -92,20 +88,22 @@ fn take_packet(
     alloc: Global,
     answers: &mut Answers,
     who: &Who<'_>,
-    bytes: &[u8],
-    packet: &PacketRef<'_>,
+    received: &Received<'_>,
 ) -> Result<(), Memory>
-    requires early { who.now.moment.0 < 2 ^ 62 }
-    requires plain { IsTrue (is_routable_if_any packet.now.head.home) }
-    requires placed { packet.now.place ≡ place_in bytes.now (tree packet.now) }
-    requires near { packet.now.place < 2 ^ 32 - 1 }
-    requires read { packet_of bytes.now ≡ Ok (tree packet.now) }
-    ensures { GoesBy who.now.kept who.now.moment.0 packet.now.head.source packet.now.head.home result
-        (receives who.now.me.now who.now.number bytes.now (packet_of bytes.now)) answers.old answers.new }
+    ensures { GoesBy who.now.kept who.now.at.moment.0 received.now.packet.head.source received.now.packet.head.home result
+        (receives who.now.me.now who.now.number received.now.bytes.now (packet_of received.now.bytes.now)) answers.old answers.new }
 {
-    match check(packet, standing(who, &packet.head)) {
-        Ok(message) => answer_role(alloc, answers, who, packet, &message),
-        Err(refusal) => refuse(alloc, answers, who, bytes, packet.head.source, refusal),
+    let packet = received.packet;
+    match check(&packet, standing(who, &packet.head)) {
+        Ok(message) => answer_role(alloc, answers, who, &Passed { packet, message }),
+        Err(refusal) => refuse(
+            alloc,
+            answers,
+            who,
+            received.bytes,
+            packet.head.source,
+            refusal,
+        ),
     }
 }
 
@@ -116,12 +114,11 @@ pub fn receive(
     who: &Who<'_>,
     bytes: &[u8],
 ) -> Result<(), Memory>
-    requires early { who.now.moment.0 < 2 ^ 62 }
-    ensures { GoesByHead who.now.kept who.now.moment.0 (packet_of bytes.now) result
+    ensures { GoesByHead who.now.kept who.now.at.moment.0 (packet_of bytes.now) result
         (receives who.now.me.now who.now.number bytes.now (packet_of bytes.now)) answers.old answers.new }
 {
     match read_packet(bytes) {
-        Ok(packet) => take_packet(alloc, answers, who, bytes, &packet),
+        Ok(packet) => take_packet(alloc, answers, who, &Received { bytes, packet }),
         Err(fault) => drop_packet(answers, who.number, packet_why(fault)),
     }
 }

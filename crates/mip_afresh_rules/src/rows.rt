@@ -1,10 +1,12 @@
 //! The rows of a verdict from the nonces on, last row first (RFC 6275 sections 5.2.6, 9.5.1 and 9.5.4).
 
-ghost use Rattle.std.specs.Prelude.{◌≡◌, ◌≤◌, ◌<◌, ◌^◌, length};
+ghost use Rattle.std.specs.Prelude.{◌≡◌, ◌≤◌};
 ghost use Rattle.mip_rules_correspondent.specs.Verdicts.{granted_of, number_of, accepted_of, by_room, by_sequence, by_key, kbm_of, by_numbers, careof_number, by_indices};
 ghost use Rattle.mip_afresh_rules.specs.Judging.{bench_at};
 
 use crate::asking::{careof_of, deletes, home_of, registered_of};
+use crate::authorized::Authorized;
+use crate::early::Early;
 use crate::who::Who;
 use mip_bcache::Accepted;
 use mip_mobhdr::Indices;
@@ -44,15 +46,14 @@ fn number_of(numbers: u8, asked: &Registration) -> u8
 }
 
 /// The binding, under the nonces with these numbers.
-fn accepted_of(now: Moment, asked: &Registration, home: u64, careof: Option<u64>) -> Accepted
-    requires { now.0 < 2 ^ 62 }
-    ensures { result ≡ accepted_of now.0 asked.now home careof }
+fn accepted_of(now: Early, asked: &Registration, home: u64, careof: Option<u64>) -> Accepted
+    ensures { result ≡ accepted_of now.moment.0 asked.now home careof }
 {
     let lifetime = u64::from(granted_of(asked)) * LIFETIME_UNIT;
     Accepted {
         careof: registered_of(asked),
         sequence: asked.sequence,
-        end: Moment(now.0 + lifetime),
+        end: Moment(now.moment.0 + lifetime),
         home_nonce: home,
         careof_nonce: careof,
     }
@@ -60,7 +61,6 @@ fn accepted_of(now: Moment, asked: &Registration, home: u64, careof: Option<u64>
 
 /// 130 where there is no room for the home; else the update is accepted.
 fn by_room(who: &Who<'_>, asked: &Registration, home: u64, careof: Option<u64>, kbm: Kbm) -> Verdict
-    requires { who.now.moment.0 < 2 ^ 62 }
     ensures { result ≡ by_room (bench_at who.now) asked.now home careof kbm }
 {
     if who.kept.is_full {
@@ -69,7 +69,7 @@ fn by_room(who: &Who<'_>, asked: &Registration, home: u64, careof: Option<u64>, 
     Verdict::Accept {
         home: home_of(asked),
         number: number_of(who.kept.numbers, asked),
-        accepted: accepted_of(who.moment, asked, home, careof),
+        accepted: accepted_of(who.at, asked, home, careof),
         granted: granted_of(asked),
         kbm,
     }
@@ -83,7 +83,6 @@ fn by_sequence(
     careof: Option<u64>,
     kbm: Kbm,
 ) -> Verdict
-    requires { who.now.moment.0 < 2 ^ 62 }
     ensures { result ≡ by_sequence (bench_at who.now) asked.now home careof kbm who.now.kept.floor }
 {
     match who.kept.floor {
@@ -97,18 +96,16 @@ fn by_sequence(
 /// Silence where the authenticator is not that of the key.
 fn by_key(
     who: &Who<'_>,
-    asked: &Registration,
-    message: &[u8],
+    update: &Authorized<'_>,
     home: u64,
     careof: Option<u64>,
     kbm: Kbm,
 ) -> Verdict
-    requires early { who.now.moment.0 < 2 ^ 62 }
-    requires long { 18 ≤ length message.now }
-    ensures { result ≡ by_key (bench_at who.now) asked.now message.now home careof kbm }
+    ensures { result ≡ by_key (bench_at who.now) update.now.registration update.now.message.now home careof kbm }
 {
+    let asked = &update.registration;
     let prepared = PreparedKbm::new(kbm);
-    if !authentic(&prepared, registered_of(asked), who.me.own, message) {
+    if !authentic(&prepared, registered_of(asked), who.me.own, update.message) {
         return Verdict::Refuse(Why::Authenticator);
     }
     by_sequence(who, asked, home, careof, kbm)
@@ -131,22 +128,20 @@ fn kbm_of(who: &Who<'_>, asked: &Registration, home: u64, careof: Option<u64>) -
 /// 136, 137 or 138 where an index names no valid nonce.
 fn by_numbers(
     who: &Who<'_>,
-    asked: &Registration,
-    message: &[u8],
+    update: &Authorized<'_>,
     home: Option<u64>,
     careof: Option<Option<u64>>,
 ) -> Verdict
-    requires early { who.now.moment.0 < 2 ^ 62 }
-    requires long { 18 ≤ length message.now }
-    ensures { result ≡ by_numbers (bench_at who.now) asked.now message.now home careof }
+    ensures { result ≡ by_numbers (bench_at who.now) update.now.registration update.now.message.now home careof }
 {
+    let asked = &update.registration;
     match (home, careof) {
         (None, None) => deny(status::EXPIRED_NONCES, asked.sequence, None),
         (None, Some(_)) => deny(status::EXPIRED_HOME_NONCE, asked.sequence, None),
         (Some(_), None) => deny(status::EXPIRED_CAREOF_NONCE, asked.sequence, None),
         (Some(home), Some(careof)) => {
             let kbm = kbm_of(who, asked, home, careof);
-            by_key(who, asked, message, home, careof, kbm)
+            by_key(who, update, home, careof, kbm)
         }
     }
 }
@@ -158,23 +153,22 @@ fn careof_number(who: &Who<'_>, asked: &Registration, indices: Indices) -> Optio
     if deletes(asked) {
         return Some(None);
     }
-    match by_index(who.moment, indices.careof) {
+    match by_index(who.at.moment, indices.careof) {
         Some(number) => Some(Some(number)),
         None => None,
     }
 }
 
 /// Silence where the Nonce Indices are missing.
-pub fn by_indices(who: &Who<'_>, asked: &Registration, message: &[u8]) -> Verdict
-    requires early { who.now.moment.0 < 2 ^ 62 }
-    requires long { 18 ≤ length message.now }
-    ensures { result ≡ by_indices (bench_at who.now) asked.now message.now asked.now.nonces }
+pub fn by_indices(who: &Who<'_>, update: &Authorized<'_>) -> Verdict
+    ensures { result ≡ by_indices (bench_at who.now) update.now.registration update.now.message.now update.now.registration.nonces }
 {
+    let asked = &update.registration;
     match asked.nonces {
         Some(indices) => {
-            let home = by_index(who.moment, indices.home);
+            let home = by_index(who.at.moment, indices.home);
             let careof = careof_number(who, asked, indices);
-            by_numbers(who, asked, message, home, careof)
+            by_numbers(who, update, home, careof)
         }
         None => Verdict::Refuse(Why::Options),
     }

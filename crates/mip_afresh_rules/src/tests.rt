@@ -14,9 +14,9 @@ use std::alloc::Global;
 
 /// The Home Test to the source of an init: its cookie, and the home keygen token of the source under the newest nonce.
 fn home_test(alloc: Global, who: &Who<'_>, source: Address, cookie: Cookie) -> Result<Bytes, Memory>
-    ensures { IfOk result (λ b. b ≡ home_test who.now.me.now who.now.moment.0 source cookie.0) }
+    ensures { IfOk result (λ b. b ≡ home_test who.now.me.now who.now.at.moment.0 source cookie.0) }
 {
-    let nonce = current(who.moment);
+    let nonce = current(who.at.moment);
     let token = who.me.secrets.home_token(source, nonce);
     write_home_test(alloc, who.me.own, source, index_of(nonce), cookie, token)
 }
@@ -28,9 +28,9 @@ fn careof_test(
     source: Address,
     cookie: Cookie,
 ) -> Result<Bytes, Memory>
-    ensures { IfOk result (λ b. b ≡ careof_test who.now.me.now who.now.moment.0 source cookie.0) }
+    ensures { IfOk result (λ b. b ≡ careof_test who.now.me.now who.now.at.moment.0 source cookie.0) }
 {
-    let nonce = current(who.moment);
+    let nonce = current(who.at.moment);
     let token = who.me.secrets.careof_token(source, nonce);
     write_careof_test(alloc, who.me.own, source, index_of(nonce), cookie, token)
 }
@@ -44,7 +44,7 @@ pub fn answer_home_init(
     source: Address,
     cookie: Cookie,
 ) -> Result<(), Memory>
-    ensures { Goes who.now.moment.0 result (answers_home_init who.now.me.now source cookie.0) answers.old answers.new }
+    ensures { Goes who.now.at.moment.0 result (answers_home_init who.now.me.now source cookie.0) answers.old answers.new }
 {
     let test = home_test(alloc, who, source, cookie)?;
     send_packet(answers, test)
@@ -59,7 +59,7 @@ pub fn answer_careof_init(
     source: Address,
     cookie: Cookie,
 ) -> Result<(), Memory>
-    ensures { Goes who.now.moment.0 result (answers_careof_init who.now.me.now source cookie.0) answers.old answers.new }
+    ensures { Goes who.now.at.moment.0 result (answers_careof_init who.now.me.now source cookie.0) answers.old answers.new }
 {
     let test = careof_test(alloc, who, source, cookie)?;
     send_packet(answers, test)

@@ -1,25 +1,25 @@
 //! The verdict on an update: its first rows.
 
-ghost use Rattle.std.specs.Prelude.{◌≡◌, ◌<◌, ◌^◌, Some};
-ghost use Rattle.mip_reception.specs.Registrations.{registration_in};
+ghost use Rattle.std.specs.Prelude.{◌≡◌};
 ghost use Rattle.mip_rules_correspondent.specs.Verdicts.{verdict};
 ghost use Rattle.mip_afresh_rules.specs.Judging.{bench_at};
 
 use crate::asking::{careof_of, home_of};
+use crate::authorized::Authorized;
+use crate::binding_update::BindingUpdate;
 use crate::rows::{by_indices, deny};
 use crate::who::Who;
-use mip_reception::{Registration, status};
+use mip_reception::status;
 use mip_rules_correspondent::Verdict;
 use mip_words::Why;
 
 /// What becomes of an update that was read: the first row that applies. 131 where it is for a home agent, silence where an address
 /// is not routable or there is no authenticator.
 #[tactic(auto, unfolding(mip_rules_correspondent::specs::Verdicts::verdict), using(mip_reception::proofs::Updates::authorized_is_long))]
-pub fn verdict(who: &Who<'_>, asked: &Registration, message: &[u8]) -> Verdict
-    requires early { who.now.moment.0 < 2 ^ 62 }
-    requires read { registration_in asked.now.source asked.now.home_option message.now ≡ Some asked.now }
-    ensures { result ≡ verdict (bench_at who.now) asked.now message.now }
+pub fn verdict(who: &Who<'_>, update: &BindingUpdate<'_>) -> Verdict
+    ensures { result ≡ verdict (bench_at who.now) update.now.registration update.now.message.now }
 {
+    let asked = &update.registration;
     if asked.for_agent {
         return deny(
             status::HOME_REGISTRATION_NOT_SUPPORTED,
@@ -33,5 +33,9 @@ pub fn verdict(who: &Who<'_>, asked: &Registration, message: &[u8]) -> Verdict
     if !asked.authorized {
         return Verdict::Refuse(Why::Options);
     }
-    by_indices(who, asked, message)
+    let authorized = Authorized {
+        registration: update.registration,
+        message: update.message,
+    };
+    by_indices(who, &authorized)
 }

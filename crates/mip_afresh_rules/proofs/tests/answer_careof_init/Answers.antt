@@ -10,7 +10,7 @@ use Rattle.mip_afresh_rules.proofs.tests.answer_careof_init.Goals as goal
 pub returns : goal.returns
 unfolding answers_careof_init
 returns c = λ t shows.
-    let now = c.args.who.now.moment.0 in
+    let now = c.args.who.now.at.moment.0 in
     let test = λ (at : ℕ). careof_test c.args.who.now.me.now at c.args.source c.args.cookie.0 in
     subst (λ (packet : List ℕ). OnOk c.send_packet.result (Shown now c.send_packet.new.answers (noted (Sends packet) t)))
     (c.in_ok-test.ensures ∙ ap test (sym (shown-now now c.args.answers.now t shows)))

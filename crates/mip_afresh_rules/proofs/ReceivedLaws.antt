@@ -41,11 +41,11 @@ receives-checked me number bytes p kept now old t place standing r is shows read
     ∙ ap (λ (n : ℕ). checked standing n p) (sym placed) ∙ check)
 
 -- and an update is judged by it
-pub bench-kept : (w : Who) (t : Transition) (r : Registration) (old : List Answer) → IsKept w.kept t.known.cache w.moment.0 r.source r.home_option → Shown w.moment.0 old t
+pub bench-kept : (w : Who) (t : Transition) (r : Registration) (old : List Answer) → IsKept w.kept t.known.cache w.at.moment.0 r.source r.home_option → Shown w.at.moment.0 old t
     → bench_at w ≡ bench w.me.now t.known t.now r
 bench-kept w t r old is shows =
-    let mk = λ (floor : Option ℕ) (full : Bool) (numbers : ℕ). (let b : Bench = record { own = w.me.now.own; secrets = w.me.now.secrets; now = w.moment.0; floor = floor; full = full; numbers = numbers } in b) in
+    let mk = λ (floor : Option ℕ) (full : Bool) (numbers : ℕ). (let b : Bench = record { own = w.me.now.own; secrets = w.me.now.secrets; now = w.at.moment.0; floor = floor; full = full; numbers = numbers } in b) in
     ap (λ (floor : Option ℕ). mk floor w.kept.is_full w.kept.numbers) is.last
-    ∙ ap (λ (full : Bool). mk (floor_of t.known w.moment.0 (home_of r)) full w.kept.numbers) is.room
-    ∙ ap (λ (numbers : ℕ). mk (floor_of t.known w.moment.0 (home_of r)) (is_full_for t.known w.moment.0 (home_of r)) numbers) is.count
-    ∙ ap (λ (n : ℕ). bench w.me.now t.known n r) (sym (shown-now w.moment.0 old t shows))
+    ∙ ap (λ (full : Bool). mk (floor_of t.known w.at.moment.0 (home_of r)) full w.kept.numbers) is.room
+    ∙ ap (λ (numbers : ℕ). mk (floor_of t.known w.at.moment.0 (home_of r)) (is_full_for t.known w.at.moment.0 (home_of r)) numbers) is.count
+    ∙ ap (λ (n : ℕ). bench w.me.now t.known n r) (sym (shown-now w.at.moment.0 old t shows))
