@@ -121,9 +121,6 @@ module _ (posted : ℕ) (rows : List KeptToken) (tokens : List (Option Token)) (
   newest_asked i a number got end le =
       asked i a number got (λ j b x apart same. absurd (omega (arith, same, le, is.rises j i b a x got (omega (arith, apart, end, slice_get_within rows j b x)))))
 
-  is_older : ℕ → KeptToken → Bool
-  is_older number row = nat_lt row.number number
-
   -- older rows stand before the others
   pub is_split : (number : ℕ) → IsPartitionedBy (λ (row : KeptToken). nat_lt row.number number) rows
   is_split number = λ i j d le inside test.

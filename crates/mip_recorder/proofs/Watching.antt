@@ -22,7 +22,7 @@ use Rattle.mip_provenance_index.specs.Told.{IsTold, AreTold}
 use Rattle.mip_recorder.specs.Packets.{bytes_posted, number_reached, token_at, comes_next, ComesNext, IsInOrder, heard_at}
 use Rattle.mip_recorder.specs.Given.{joined}
 use Rattle.mip_recorder.specs.Watched.{IsWatched}
-use Rattle.mip_recorder.proofs.Items.{get_front, get_seam}
+pub use Rattle.mip_recorder.proofs.Items.{get_front, get_seam}
 
 -- the packets of a history with one more entry
 pub packet_more : (past : List Entry) (e : Entry) (k : ℕ) → packet_in (past ++ e ∷ []) k ≡ or_else (packet_in past k) (packet_told k e)

@@ -1,8 +1,7 @@
-use Rattle.std.proofs.Common.{◌≡◌, ◌∷◌, [], ◌++◌, ◌∙◌, sym, ap, subst, refl, ℕ, List, true, false}
+use Rattle.std.proofs.Common.{◌≡◌, ◌∷◌, [], ◌++◌, ◌∙◌, sym, subst, refl, ℕ, List, true, false}
 use Rattle.std.specs.Prelude.{Option, Some, None, is_some}
 use Rattle.mip_words.specs.declared.token.Token.{Token}
 use Rattle.mip_provenance_index.specs.Stands.{number_posted, IsHeard}
-use Rattle.mip_recorder.specs.Packets.{heard_at}
 use Rattle.mip_recorder.specs.Watched.{IsWatched}
 use Rattle.mip_recorder.proofs.Watching.{is_next, is_heard, watched_on, watched_more}
 use Rattle.mip_recorder.proofs.recorder.follow.Goals as goal
