@@ -18,6 +18,12 @@ unfolding options_after
 goes_on home found size [] filled inside e = absurd (omega (arith, filled))
 goes_on home found size (type ∷ rest) filled inside e = rw e (options_after_skip size found rest inside)
 
+-- a byte of Pad1: the walk goes on behind it
+pub passes_pad : (home : Option Address) (bytes : List ℕ) → 0 < length bytes → get_or bytes 0 0 ≡ 0 → options_after 0 home bytes ≡ options_after 0 home (drop 1 bytes)
+unfolding options_after option_at
+passes_pad home [] filled pad = absurd (omega (arith, filled))
+passes_pad home (type ∷ rest) filled pad = rw pad refl
+
 -- an option was refused: so is the whole
 pub stops : (home : Option Address) (fault : NotPacket) (bytes : List ℕ) → 0 < length bytes → option_at (get_or bytes 0 0) home (drop 1 bytes) ≡ Err fault → options_after 0 home bytes ≡ Err fault
 unfolding options_after

@@ -59,15 +59,20 @@ fn option_of(
 }
 
 /// The home address in the options of an area.
-#[tactic(auto, using(crate::proofs::Walking::goes_on, crate::proofs::Walking::stops, crate::proofs::Walking::is_done))]
+#[tactic(auto, using(crate::proofs::Walking::passes_pad, crate::proofs::Walking::goes_on, crate::proofs::Walking::stops, crate::proofs::Walking::is_done))]
 fn home_in(area: &[u8]) -> Result<Option<Address>, NotPacket>
     ensures exact { Gives (λ x. x) result (options_after 0 None area.now) }
 {
     let mut home = None;
     let mut rest = area;
     while !rest.is_empty() {
-        let (kind, more) = rest.split_at(1);
-        let (found, size) = option_of(kind[0], home, more)?;
+        let (_, more) = rest.split_at(1);
+        // Pad1 is one byte and leaves the home address as it is.
+        if rest[0] == PAD1 {
+            rest = more;
+            continue;
+        }
+        let (found, size) = option_of(rest[0], home, more)?;
         let (_, behind) = more.split_at(size);
         home = found;
         rest = behind;

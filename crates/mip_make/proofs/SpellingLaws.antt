@@ -9,6 +9,11 @@ use Rattle.mip_make.specs.Made.{event_at, event_line, events_from, made}
 use Rattle.mip_make.specs.MadeLaws.{events_text}
 use Rattle.mip_make.specs.Network.{network}
 
+-- a line of a word and a number, appended piece by piece
+pub numbered_line : (out word digits : List ℕ) → ((out ++ word) ++ 32 ∷ []) ++ (digits ++ 10 ∷ []) ≡ out ++ line_text (word ∷ digits ∷ [])
+unfolding line_text
+numbered_line out word digits = simp append_assoc
+
 abbrev Row : Type 0
 Row = List (List ℕ)
 

@@ -13,7 +13,7 @@ use crate::draw::Draw;
 use crate::drawn::{PROTO, home_by, packet_by};
 use crate::network::{CORRESPONDENT_ADDRESS, FIRST_HOME};
 use itoa::Buffer;
-use mip_lines::{put_line, put_line_hex};
+use mip_lines::{put_line, put_line_hex, put_number};
 use mip_words::{Address, Bytes, Memory, u32_bytes};
 
 #[tactic(auto, unfolding(crate::specs::Network::network, mip_symbols::specs::Places::name_at, mip_symbols::specs::Places::members))]
@@ -43,12 +43,22 @@ fn link_name(link: u32) -> &'static [u8]
     }
 }
 
+/// Appends the number that ends a line.
+fn put_last(out: &mut Bytes, number: u32) -> Result<(), Memory>
+    ensures { OnOk result (out.new ≡ out.old ++ (decimal number ++ 10 ∷ [])) }
+{
+    put_number(out, u64::from(number))?;
+    out.push(b'\n')
+}
+
 /// Appends the line of a word and a number.
-fn put_number(out: &mut Bytes, word: &[u8], number: u32) -> Result<(), Memory>
+#[tactic(auto, using(crate::proofs::SpellingLaws::numbered_line))]
+fn put_numbered(out: &mut Bytes, word: &[u8], number: u32) -> Result<(), Memory>
     ensures { OnOk result (out.new ≡ out.old ++ line_text (word.now ∷ decimal number ∷ [])) }
 {
-    let mut digits = Buffer::new();
-    put_line(out, &[word, digits.format(number).as_bytes()])
+    out.extend(word)?;
+    out.push(b' ')?;
+    put_last(out, number)
 }
 
 #[tactic(auto, unfolding(crate::specs::Drawn::moves))]
@@ -104,13 +114,13 @@ fn put_going(out: &mut Bytes, number: u32, kind: u32, y: u32) -> Result<(), Memo
     ensures { OnOk result (out.new ≡ out.old ++ event_line (events.goes_on number kind y)) }
 {
     if kind < 7 {
-        put_number(out, b"carry", 1 + y % 8)
+        put_numbered(out, b"carry", 1 + y % 8)
     } else if kind == 7 {
-        put_number(out, b"wait", 1 + y % 1800)
+        put_numbered(out, b"wait", 1 + y % 1800)
     } else if kind == 8 {
-        put_number(out, b"lose", packet_by(number, y))
+        put_numbered(out, b"lose", packet_by(number, y))
     } else {
-        put_number(out, b"repeat", packet_by(number, y))
+        put_numbered(out, b"repeat", packet_by(number, y))
     }
 }
 

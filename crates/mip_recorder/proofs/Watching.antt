@@ -1,5 +1,5 @@
 -- One more entry of a watched history.
-use Rattle.std.proofs.Common.{◌≡◌, ◌≢◌, ℕ, zero, suc, ◌+◌, ◌<◌, List, [], ◌∷◌, ◌++◌, Bool, true, length, inl, inr, refl, sym, ap, ◌∙◌, subst, arith, length-append}
+use Rattle.std.proofs.Common.{◌≡◌, ◌≢◌, ℕ, ◌+◌, ◌<◌, List, [], ◌∷◌, ◌++◌, Bool, true, length, inl, inr, refl, sym, ap, ◌∙◌, subst, arith, length-append}
 use Rattle.std.specs.Prelude.{Option, Some, None, ◌==◌, nat_lt, if◌then◌else◌, option_map, slice_get}
 use Rattle.std.specs.List.{filter_map, cons_option}
 use Rattle.std.specs.Option.{option_and_then, option_map_or}
@@ -22,18 +22,7 @@ use Rattle.mip_provenance_index.specs.Told.{IsTold, AreTold}
 use Rattle.mip_recorder.specs.Packets.{bytes_posted, number_reached, token_at, comes_next, ComesNext, IsInOrder, heard_at}
 use Rattle.mip_recorder.specs.Given.{joined}
 use Rattle.mip_recorder.specs.Watched.{IsWatched}
-
--- items of a list with one more
-pub get_front : {X : Type 0} (xs : List X) (y : X) (i : ℕ) → i < length xs → slice_get (xs ++ y ∷ []) i ≡ slice_get xs i
-get_front [] y i inside = absurd (omega (arith, inside))
-get_front (x ∷ xs) y zero inside = refl
-get_front (x ∷ xs) y (suc i) inside = get_front xs y i (omega (arith, inside))
-
-pub get_seam : {X : Type 0} (xs : List X) (y : X) (i : ℕ) → i ≡ length xs → slice_get (xs ++ y ∷ []) i ≡ Some y
-get_seam [] y zero is = refl
-get_seam [] y (suc i) is = absurd (omega (arith, is))
-get_seam (x ∷ xs) y zero is = absurd (omega (arith, is))
-get_seam (x ∷ xs) y (suc i) is = get_seam xs y i (omega (arith, is))
+pub use Rattle.mip_recorder.proofs.Items.{get_front, get_seam}
 
 -- the packets of a history with one more entry
 pub packet_more : (past : List Entry) (e : Entry) (k : ℕ) → packet_in (past ++ e ∷ []) k ≡ or_else (packet_in past k) (packet_told k e)

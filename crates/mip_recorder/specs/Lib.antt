@@ -1,3 +1,4 @@
 pub mod Packets
 pub mod Watched
 pub mod Given
+pub mod Kept

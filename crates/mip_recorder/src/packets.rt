@@ -4,6 +4,7 @@ ghost use Rattle.std.specs.Prelude.{◌≡◌, is_some, option_map};
 ghost use Rattle.mip_provenance_index.specs.Stands.{number_posted};
 ghost use Rattle.mip_recorder.specs.Packets.{heard_at};
 
+use crate::packet_tokens::PacketTokens;
 use mip_entries::Entry;
 use mip_words::Token;
 
@@ -15,14 +16,11 @@ pub fn is_posting(entry: &Entry) -> bool
 }
 
 /// The token of the packet that an entry says was heard, where it is a test.
-pub fn heard(tokens: &[Option<Token>], entry: &Entry) -> Option<Token>
+pub fn heard(tokens: &PacketTokens, entry: &Entry) -> Option<Token>
     ensures { option_map (λ t. t.0) result ≡ heard_at tokens.now entry.now }
 {
     match entry {
-        Entry::Heard { number, .. } => match tokens.get(*number as usize) {
-            Some(token) => *token,
-            None => None,
-        },
+        Entry::Heard { number, .. } => tokens.token(*number),
         _ => None,
     }
 }

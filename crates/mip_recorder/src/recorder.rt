@@ -6,12 +6,13 @@ ghost use Rattle.mip_recorder.specs.Packets.{comes_next, IsInOrder};
 ghost use Rattle.mip_recorder.specs.Given.{past_of, with_entry, all_told};
 ghost use Rattle.mip_recorder.specs.Watched.{IsWatched};
 
+use crate::packet_tokens::PacketTokens;
 use crate::packets::{heard, is_posting};
 use mip_entries::{Entry, History, Witness};
 use mip_ghost_log::GhostLog;
 use mip_provenance::{AcceptedUpdate, Mark};
 use mip_provenance_index::ProvenanceIndex;
-use mip_words::{Memory, Token};
+use mip_words::Memory;
 use std::alloc::Global;
 use std::marker::Model;
 use std::mem;
@@ -27,7 +28,7 @@ const PIECE: usize = 128;
 pub struct Recorder {
     alloc: Global,
     watch: ProvenanceIndex,
-    tokens: Vec<Option<Token>>,
+    tokens: PacketTokens,
     is_whole: bool,
     told: GhostLog<History>,
     fresh: History,
@@ -44,7 +45,7 @@ impl Model for Recorder {
 
     ghost view = { λ c. record { told = joined c.told.items; fresh = c.fresh } };
 
-    ghost invariant = { λ c. c.is_whole ≡ true → IsInOrder (joined c.told.items ++ c.fresh) → IsWatched c.watch (joined c.told.items ++ c.fresh) c.tokens.items };
+    ghost invariant = { λ c. c.is_whole ≡ true → IsInOrder (joined c.told.items ++ c.fresh) → IsWatched c.watch (joined c.told.items ++ c.fresh) c.tokens };
 }
 
 impl Recorder {
@@ -55,7 +56,7 @@ impl Recorder {
         Ok(Recorder {
             alloc,
             watch: ProvenanceIndex::new(alloc),
-            tokens: Vec::new(alloc),
+            tokens: PacketTokens::new(alloc),
             is_whole: true,
             told: GhostLog::new(),
             fresh: piece(alloc)?,
@@ -131,14 +132,14 @@ fn piece(alloc: Global) -> Result<History, Memory>
 fn follow(
     alloc: Global,
     watch: &mut ProvenanceIndex,
-    tokens: &mut Vec<Option<Token>>,
+    tokens: &mut PacketTokens,
     entry: &Entry,
 ) -> Result<(), Memory>
-    ensures { (past : List Entry) → IsWatched watch.old past tokens.old.items
-        → comes_next (length tokens.old.items) entry.now ≡ true
-        → OnOk result (IsWatched watch.new (past ++ entry.now ∷ []) tokens.new.items) }
+    ensures { (past : List Entry) → IsWatched watch.old past tokens.old
+        → comes_next (length tokens.old) entry.now ≡ true
+        → OnOk result (IsWatched watch.new (past ++ entry.now ∷ []) tokens.new) }
 {
-    let heard = heard(tokens.as_slice(), entry);
+    let heard = heard(tokens, entry);
     let token = watch.note(alloc, entry, heard)?;
     if is_posting(entry) {
         tokens.push(token)?;

@@ -17,4 +17,4 @@ invariant_of-self-2 c = λ whole order.
     let ordered = subst IsInOrder is order in
     let before = c.self.invariant whole (in_order_front [] past e ordered) in
     let next = subst (λ (n : ℕ). comes_next n e ≡ true) (sym before.count) (in_order_next past e ordered) in
-    subst (λ (l : List Entry). IsWatched c.follow.new.watch l c.follow.new.tokens.items) (sym is) (c.in_ok-follow.ensures past before next)
+    subst (λ (l : List Entry). IsWatched c.follow.new.watch l c.follow.new.tokens) (sym is) (c.in_ok-follow.ensures past before next)

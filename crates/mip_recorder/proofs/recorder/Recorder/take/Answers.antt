@@ -15,7 +15,7 @@ invariant_of-self c = λ whole order.
     let none : c.replace.new.dest ≡ [] = c.replace.ensures.after ∙ c.in_ok-next.ensures in
     let same : joined c.with-self-inside.result.items ++ c.replace.new.dest ≡ joined told ++ fresh =
     ap (λ (l : List Entry). joined c.with-self-inside.result.items ++ l) none ∙ append-nil (joined c.with-self-inside.result.items) ∙ pieces in
-    subst (λ (l : List Entry). IsWatched c.self.inside.watch l c.self.inside.tokens.items) (sym same) (c.self.invariant whole (subst IsInOrder same order))
+    subst (λ (l : List Entry). IsWatched c.self.inside.watch l c.self.inside.tokens) (sym same) (c.self.invariant whole (subst IsInOrder same order))
 
 pub returns-clause-after : goal.returns-clause-after
 returns-clause-after c =
