@@ -1,4 +1,4 @@
-ghost use Rattle.std.specs.Prelude.{◌≡◌, ◌++◌, Ok, IfOk, OnOk, IsTrue};
+ghost use Rattle.std.specs.Prelude.{◌≡◌, ◌≤◌, ◌++◌, length, Ok, IfOk, OnOk, IsTrue};
 ghost use Rattle.mip_ipv6.specs.Sum.{is_right_sum};
 ghost use Rattle.mip_icmp.specs.Said.{said_plain};
 ghost use Rattle.mip_icmp.specs.Reading.{icmp_of};
@@ -40,8 +40,22 @@ fn put_unsummed(out: &mut Bytes, message: &PlainIcmp) -> Result<(), Memory>
     }
 }
 
+/// The message with a checksum of zero.
+#[tactic(auto, using(crate::proofs::Canonical::unsummed_long, crate::proofs::Canonical::unsummed_size))]
+fn unsummed_of(alloc: Global, message: &PlainIcmp) -> Result<Bytes, Memory>
+    requires { IsWritable (said_plain message.now) }
+    ensures bytes { IfOk result (λ b. b ≡ unsummed (said_plain message.now)) }
+    ensures long { IfOk result (λ b. 8 ≤ length b) }
+    ensures size { IfOk result (λ b. length b ≤ 65535) }
+    ensures fits { OnOk result (Fits (said_plain message.now)) }
+{
+    let mut out = Bytes::new(alloc);
+    put_unsummed(&mut out, message)?;
+    Ok(out)
+}
+
 /// The message with the checksum that holds.
-#[tactic(auto, unfolding(crate::specs::Spelling::icmp_bytes), using(crate::proofs::Canonical::unsummed_long, crate::proofs::Canonical::unsummed_size))]
+#[tactic(auto, unfolding(crate::specs::Spelling::icmp_bytes))]
 fn summed(
     alloc: Global,
     source: Address,
@@ -53,8 +67,7 @@ fn summed(
     ensures sum { IfOk result (λ b. IsTrue (is_right_sum source destination 58 b)) }
     ensures fits { OnOk result (Fits (said_plain message.now)) }
 {
-    let mut bytes = Bytes::new(alloc);
-    put_unsummed(&mut bytes, message)?;
+    let mut bytes = unsummed_of(alloc, message)?;
     let sum = checksum(source, destination, PROTO, bytes.as_slice(), 2);
     bytes.set_u16(2, sum);
     Ok(bytes)
