@@ -2,6 +2,7 @@
 use Rattle.std.specs.Prelude.{ℕ, List, [], ◌∷◌, ◌++◌, Option, Some, None, is_some, slice_get, codes, decimal}
 use Rattle.mip_words.specs.Hex.{hex_of}
 use Rattle.mip_words.specs.declared.address.Address.{Address}
+use Rattle.mip_words.specs.declared.moment.Moment.{Moment}
 use Rattle.mip_words.specs.declared.token.Cookie.{Cookie}
 use Rattle.mip_lines.specs.HexFields.{address_hex, number_hex}
 use Rattle.mip_lines.specs.Lines.{line_text}
@@ -81,12 +82,12 @@ task_word HomeRenew = codes "home-renew"
 task_word HomeEnd = codes "home-end"
 task_word Discover = codes "discover"
 
-abbrev pub work_fields : Due → Option Address → List (List ℕ)
-work_fields due None = task_word due.task ∷ []
-work_fields due (Some peer) = task_word due.task ∷ address_hex peer ∷ []
+abbrev pub task_line : (node : List ℕ) → Moment → (task : List ℕ) → Option Address → List ℕ
+task_line node at task None = line_text (codes "work" ∷ node ∷ decimal at.0 ∷ task ∷ [])
+task_line node at task (Some peer) = line_text (codes "work" ∷ node ∷ decimal at.0 ∷ task ∷ address_hex peer ∷ [])
 
 abbrev pub work_line : (node : List ℕ) → Due → List ℕ
-work_line node due = line_text (codes "work" ∷ node ∷ decimal due.at.0 ∷ work_fields due due.peer)
+work_line node due = task_line node due.at (task_word due.task) due.peer
 
 unfoldable pub work_lines : (node : List ℕ) → List Due → List ℕ
 work_lines node [] = []

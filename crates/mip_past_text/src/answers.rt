@@ -160,3 +160,17 @@ pub fn put_whether(
         put_line(out, &[question, node, &subject.digits(), b"no"])
     }
 }
+
+/// The word of a yes or a no.
+pub fn yes_or_no(answer: bool) -> &'static [u8]
+    ensures { result.now ≡ yes_or_no answer }
+{
+    if answer { b"yes" } else { b"no" }
+}
+
+/// Appends `QUESTION NODE ANSWER`, by a word.
+pub fn put_word(out: &mut Bytes, question: &[u8], node: &[u8], answer: &[u8]) -> Result<(), Memory>
+    ensures { OnOk result (out.new ≡ out.old ++ line_text (question.now ∷ node.now ∷ answer.now ∷ [])) }
+{
+    put_line(out, &[question, node, answer])
+}

@@ -1,16 +1,14 @@
 //! The lines of a mobile that is led along.
 
-ghost use Rattle.std.specs.Prelude.{◌≡◌, ◌++◌, ◌∷◌, [], OnOk, codes};
-ghost use Rattle.mip_lines.specs.Lines.{line_text};
+ghost use Rattle.std.specs.Prelude.{◌≡◌, ◌++◌, OnOk};
 ghost use Rattle.mip_rules_mobile.specs.Known.{Known};
 ghost use Rattle.mip_past_led.specs.Leading.{mobile_at, shown_of};
-ghost use Rattle.mip_past_text.specs.Led.{found_lines, finding_lines, mobile_lines, led_text};
-ghost use Rattle.mip_past_text.specs.Answers.{yes_or_no};
+ghost use Rattle.mip_past_led.specs.Questions.{peers_of, agents_of, due_work_of};
+ghost use Rattle.mip_past_text.specs.Led.{peers_lines, agents_lines, work_lines, found_lines, finding_lines, mobile_lines, led_text};
 
 use crate::ahead::{put_agents, put_ahead};
-use crate::answers::put_address_if;
+use crate::answers::{put_address_if, put_word, yes_or_no};
 use crate::peers::put_peers;
-use mip_lines::put_line;
 use mip_past_led::{Led, LedMobile};
 use mip_words::{Address, Bytes, Memory, NodeId};
 use std::alloc::Global;
@@ -26,24 +24,57 @@ fn put_found(out: &mut Bytes, node: &[u8], agents: &[Address]) -> Result<(), Mem
     Ok(())
 }
 
-/// Appends `discovering NODE ANSWER`, by yes or no.
-fn put_discovering(out: &mut Bytes, node: &[u8], is_discovering: bool) -> Result<(), Memory>
-    ensures { OnOk result (out.new ≡ out.old ++ line_text (codes "discovering" ∷ node.now ∷ yes_or_no is_discovering ∷ [])) }
-{
-    if is_discovering {
-        put_line(out, &[b"discovering", node, b"yes"])
-    } else {
-        put_line(out, &[b"discovering", node, b"no"])
-    }
-}
-
 /// Appends the agents that were found, the one that is chosen next, and whether a discovery is under way.
 fn put_finding(out: &mut Bytes, node: &[u8], mobile: &LedMobile<'_>) -> Result<(), Memory>
     ensures { (k : Known) → shown_of k ≡ mobile.now → OnOk result (out.new ≡ out.old ++ finding_lines node.now k) }
 {
     put_found(out, node, mobile.found())?;
     put_address_if(out, b"next-found", node, mobile.next_found())?;
-    put_discovering(out, node, mobile.is_discovering())
+    put_word(
+        out,
+        b"discovering",
+        node,
+        yes_or_no(mobile.is_discovering()),
+    )
+}
+
+/// Appends what is asked about its peers.
+fn put_its_peers(
+    alloc: Global,
+    out: &mut Bytes,
+    node: &[u8],
+    mobile: &LedMobile<'_>,
+) -> Result<(), Memory>
+    ensures { OnOk result (out.new ≡ out.old ++ peers_lines node.now mobile.now.list.rows (peers_of mobile.now.list.rows)) }
+{
+    let peers = mobile.peers(alloc)?;
+    put_peers(alloc, out, node, mobile, &peers)
+}
+
+/// Appends the sequences of its next home registrations.
+fn put_its_agents(
+    alloc: Global,
+    out: &mut Bytes,
+    node: &[u8],
+    mobile: &LedMobile<'_>,
+) -> Result<(), Memory>
+    ensures { OnOk result (out.new ≡ out.old ++ agents_lines node.now mobile.now.numberings (agents_of mobile.now.numberings)) }
+{
+    let agents = mobile.agents(alloc)?;
+    put_agents(alloc, out, node, mobile, &agents)
+}
+
+/// Appends the work that it has ahead.
+fn put_its_work(
+    alloc: Global,
+    out: &mut Bytes,
+    node: &[u8],
+    mobile: &LedMobile<'_>,
+) -> Result<(), Memory>
+    ensures { OnOk result (out.new ≡ out.old ++ work_lines node.now (due_work_of mobile.now.list)) }
+{
+    let work = mobile.due_work(alloc)?;
+    put_ahead(alloc, out, node, &work)
 }
 
 /// Appends what is asked of a mobile.
@@ -55,12 +86,9 @@ fn put_mobile(
 ) -> Result<(), Memory>
     ensures { (k : Known) → shown_of k ≡ mobile.now → OnOk result (out.new ≡ out.old ++ mobile_lines node.now k) }
 {
-    let peers = mobile.peers(alloc)?;
-    put_peers(alloc, out, node, mobile, &peers)?;
-    let agents = mobile.agents(alloc)?;
-    put_agents(alloc, out, node, mobile, &agents)?;
-    let work = mobile.due_work(alloc)?;
-    put_ahead(alloc, out, node, &work)?;
+    put_its_peers(alloc, out, node, mobile)?;
+    put_its_agents(alloc, out, node, mobile)?;
+    put_its_work(alloc, out, node, mobile)?;
     put_finding(out, node, mobile)
 }
 

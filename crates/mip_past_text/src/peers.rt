@@ -33,10 +33,10 @@ fn state_word(state: TrialState) -> &'static [u8]
 }
 
 /// Appends `trial NODE PEER STATE`.
-fn put_state(out: &mut Bytes, node: &[u8], peer: Address, state: TrialState) -> Result<(), Memory>
-    ensures { OnOk result (out.new ≡ out.old ++ asked_line (codes "trial") node.now peer (state_word state)) }
+fn put_state(out: &mut Bytes, node: &[u8], peer: Address, state: &[u8]) -> Result<(), Memory>
+    ensures { OnOk result (out.new ≡ out.old ++ asked_line (codes "trial") node.now peer state.now) }
 {
-    put_line(out, &[b"trial", node, &peer.digits(), state_word(state)])
+    put_line(out, &[b"trial", node, &peer.digits(), state])
 }
 
 /// Appends `cookies NODE PEER HOME CAREOF`, where a test is waited for.
@@ -132,7 +132,7 @@ fn put_peer(
 {
     let row = mobile.row_of(peer).map(u16::from);
     put_number_of(alloc, out, b"peer", node, peer, row)?;
-    put_state(out, node, peer, mobile.trial(peer))?;
+    put_state(out, node, peer, state_word(mobile.trial(peer)))?;
     put_tests(alloc, out, node, mobile, peer)?;
     let next = Some(mobile.next_to_peer(peer));
     put_number_of(alloc, out, b"next-update", node, peer, next)

@@ -6,7 +6,8 @@ use Rattle.mip_lines.specs.Lines.{line_text}
 use Rattle.mip_symbols.specs.Spelled.{node_text}
 use Rattle.mip_history.specs.Told.{careof_in}
 use Rattle.mip_past_text.specs.Fronts.{front_of}
-use Rattle.mip_past_text.specs.Text.{now_of, address_answer}
+use Rattle.mip_past_text.specs.Answers.{address_answer}
+use Rattle.mip_past_text.specs.Text.{now_of}
 use Rattle.mip_past_text.proofs.text.put_registered.Goals as goal
 
 pub returns : goal.returns

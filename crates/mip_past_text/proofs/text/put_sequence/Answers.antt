@@ -4,7 +4,7 @@ use Rattle.mip_lines.specs.HexFields.{address_hex}
 use Rattle.mip_lines.specs.Lines.{line_text}
 use Rattle.mip_symbols.specs.Spelled.{node_text}
 use Rattle.mip_history.specs.Registered.{last_registration}
-use Rattle.mip_past_text.specs.Text.{number_answer}
+use Rattle.mip_past_text.specs.Answers.{number_answer}
 use Rattle.mip_past_text.proofs.text.put_sequence.Goals as goal
 
 pub returns : goal.returns
