@@ -91,21 +91,8 @@ fn put_unsummed(out: &mut Bytes, message: &Neighbour) -> Result<(), Memory>
     }
 }
 
-/// The message with a checksum of zero.
-#[tactic(auto, using(crate::proofs::Canonical::unsummed_long, crate::proofs::Canonical::unsummed_size))]
-fn unsummed_of(alloc: Global, message: &Neighbour) -> Result<Bytes, Memory>
-    ensures bytes { IfOk result (λ b. b ≡ unsummed message.now) }
-    ensures long { IfOk result (λ b. 24 ≤ length b) }
-    ensures size { IfOk result (λ b. length b ≤ 65535) }
-    ensures fits { OnOk result (Fits message.now) }
-{
-    let mut out = Bytes::new(alloc);
-    put_unsummed(&mut out, message)?;
-    Ok(out)
-}
-
 /// The message with the checksum that holds.
-#[tactic(auto, unfolding(crate::specs::Spelling::neighbour_bytes))]
+#[tactic(auto, unfolding(crate::specs::Spelling::neighbour_bytes), using(crate::proofs::Canonical::unsummed_long, crate::proofs::Canonical::unsummed_size))]
 fn summed(
     alloc: Global,
     source: Address,
@@ -116,7 +103,8 @@ fn summed(
     ensures sum { IfOk result (λ b. IsTrue (is_right_sum source destination 58 b)) }
     ensures fits { OnOk result (Fits message.now) }
 {
-    let mut bytes = unsummed_of(alloc, message)?;
+    let mut bytes = Bytes::new(alloc);
+    put_unsummed(&mut bytes, message)?;
     let sum = checksum(source, destination, ICMPV6, bytes.as_slice(), 2);
     bytes.set_u16(2, sum);
     Ok(bytes)

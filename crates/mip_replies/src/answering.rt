@@ -1,13 +1,13 @@
 //! What is answered to the input.
 
 ghost use Rattle.std.specs.Prelude.{◌≡◌, ◌≢◌, IfOk, Err};
-ghost use Rattle.mip_replies.specs.Answers.{form_answer, listing_answer};
+ghost use Rattle.mip_replies.specs.Answers.{input_answer, listing_answer};
 ghost use Rattle.mip_explain.specs.Listing.{listing_of};
 ghost use Rattle.mip_replies.specs.Told.{IsConclusive, IsStatus};
 
 use crate::auditing::audited;
+use crate::bounded_input::BoundedInput;
 use crate::input_form::InputForm;
-use crate::reading::LIMIT;
 use crate::reply::Reply;
 use crate::scheduling::scheduled;
 use crate::status::Status;
@@ -18,18 +18,15 @@ use std::alloc::Global;
 
 /// The answer to the input.
 #[tactic(auto, unfolding(crate::specs::Answers::input_answer))]
-pub fn answer(alloc: Global, form: InputForm, input: Bytes) -> Result<Reply, Memory>
-    ensures answers { IfOk result (λ reply. reply ≡ form_answer form input) }
+pub fn answer(alloc: Global, form: InputForm, input: BoundedInput) -> Result<Reply, Memory>
+    ensures answers { IfOk result (λ reply. reply ≡ input_answer form input.bytes) }
     ensures conclusive { IfOk result (λ reply. IsConclusive reply.status) }
     ensures statuses { IfOk result (λ reply. IsStatus reply.status × (reply.status ≢ 1)) }
 {
-    if input.len() > LIMIT {
-        return Reply::copy(alloc, Status::TOO_LONG, b"long\n");
-    }
     match form {
         InputForm::Schedule(told) => scheduled(alloc, told, input),
-        InputForm::Packet => decode(alloc, input.as_slice()),
-        InputForm::Audit => audited(alloc, input.as_slice()),
+        InputForm::Packet => decode(alloc, input.bytes.as_slice()),
+        InputForm::Audit => audited(alloc, input.bytes.as_slice()),
     }
 }
 

@@ -2,12 +2,14 @@
 
 ghost use Rattle.std.specs.Prelude.{◌≡◌, ◌≢◌, ℕ, ◌≤◌, ◌⊎◌, List};
 ghost use Rattle.mip_outside.specs.Cause.{Rose};
-ghost use Rattle.mip_replies.specs.Answers.{form_answer, bad_answer};
+ghost use Rattle.mip_replies.specs.Answers.{form_answer, bad_answer, long_answer};
 ghost use Rattle.mip_replies.specs.Told.{IsAnswered, IsStatus, Told};
 
 use crate::answering::answer;
+use crate::bounded_input::BoundedInput;
 use crate::input_form::InputForm;
 use crate::reading::{ReadFault, read_input};
+use crate::reply::Reply;
 use crate::scheduling::bad;
 use crate::status::Status;
 use crate::telling::tell_reply;
@@ -37,7 +39,25 @@ pub fn answer_input<S: Source, K: Sink>(
         Err(ReadFault::Failed) => return Status::READ_FAULT,
         Err(ReadFault::Memory) => return Status::MEMORY,
     };
-    match answer(alloc, form, bytes) {
+    // A program has its functions in the order in which they are reached first. Telling a reply runs a schedule: here that is reached
+    // before an audit, and so does not lie among what only an audit executes.
+    let Some(input) = BoundedInput::of(bytes) else {
+        return tell_long(alloc, sink);
+    };
+    match answer(alloc, form, input) {
+        Ok(reply) => tell_reply(alloc, sink, &reply),
+        Err(Memory) => Status::MEMORY,
+    }
+}
+
+/// Writes the line that tells an input that is too long.
+fn tell_long<K: Sink>(alloc: Global, sink: &mut K) -> Status
+    ensures told { Told long_answer result.0 (K.held sink.old) (K.held sink.new) }
+    ensures status { (result.0 ≡ 6) ⊎ ((result.0 ≡ 4) ⊎ (result.0 ≡ 5)) }
+    ensures no_fewer { K.faults sink.old ≤ K.faults sink.new }
+    ensures cause { result.0 ≡ 4 → Rose (K.faults sink.old) (K.faults sink.new) }
+{
+    match Reply::copy(alloc, Status::TOO_LONG, b"long\n") {
         Ok(reply) => tell_reply(alloc, sink, &reply),
         Err(Memory) => Status::MEMORY,
     }

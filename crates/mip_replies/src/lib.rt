@@ -3,6 +3,7 @@
 
 mod answering;
 mod auditing;
+mod bounded_input;
 mod claiming;
 mod input;
 mod input_form;

@@ -1,10 +1,11 @@
 //! What is answered to a schedule.
 
-ghost use Rattle.std.specs.Prelude.{◌≡◌, ◌≤◌, IfOk, length};
+ghost use Rattle.std.specs.Prelude.{◌≡◌, IfOk};
 ghost use Rattle.mip_replies.specs.Answers.{schedule_answer, bad_answer};
 ghost use Rattle.mip_replies.specs.Words.{reason_word};
 ghost use Rattle.mip_replies.specs.Told.{IsConclusive};
 
+use crate::bounded_input::BoundedInput;
 use crate::lengths::event_lines;
 use crate::reply::Reply;
 use crate::status::Status;
@@ -19,15 +20,14 @@ use std::alloc::Global;
 const EVENTS: usize = 20_000;
 
 /// What is told of a schedule's run, or its first bad line and why. The input is given up, and the schedule runs as that is written.
-pub fn scheduled(alloc: Global, told: ToldRun, input: Bytes) -> Result<Reply, Memory>
-    requires { length input ≤ 16777216 }
-    ensures answers { IfOk result (λ reply. reply ≡ schedule_answer told input) }
+pub fn scheduled(alloc: Global, told: ToldRun, input: BoundedInput) -> Result<Reply, Memory>
+    ensures answers { IfOk result (λ reply. reply ≡ schedule_answer told input.bytes) }
     ensures conclusive { IfOk result (λ reply. IsConclusive reply.status) }
 {
-    if event_lines(input.as_slice()) > EVENTS {
+    if event_lines(input.bytes.as_slice()) > EVENTS {
         return Reply::copy(alloc, Status::TOO_LONG, b"long\n");
     }
-    let read = read_schedule(alloc, input.as_slice());
+    let read = read_schedule(alloc, input.bytes.as_slice());
     drop(input);
     match read {
         Ok(schedule) => Ok(Reply {
