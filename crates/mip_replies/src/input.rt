@@ -2,7 +2,7 @@
 
 ghost use Rattle.std.specs.Prelude.{◌≡◌, ◌≢◌, ℕ, ◌≤◌, ◌⊎◌, List};
 ghost use Rattle.mip_outside.specs.Cause.{Rose};
-ghost use Rattle.mip_replies.specs.Answers.{form_answer, bad_answer, long_answer};
+ghost use Rattle.mip_replies.specs.Answers.{form_answer, input_answer, bad_answer, long_answer};
 ghost use Rattle.mip_replies.specs.Told.{IsAnswered, IsStatus, Told};
 
 use crate::answering::answer;
@@ -39,11 +39,26 @@ pub fn answer_input<S: Source, K: Sink>(
         Err(ReadFault::Failed) => return Status::READ_FAULT,
         Err(ReadFault::Memory) => return Status::MEMORY,
     };
-    // A program has its functions in the order in which they are reached first. Telling a reply runs a schedule: here that is reached
-    // before an audit, and so does not lie among what only an audit executes.
+    // A program has its functions in the order in which they are reached first. What tells that the input is too long reaches all that
+    // runs a schedule, and so a run stands before what only an audit executes, and not among it.
     let Some(input) = BoundedInput::of(bytes) else {
         return tell_long(alloc, sink);
     };
+    answer_bounded(alloc, form, input, sink)
+}
+
+/// Writes the answer to an input that is not too long.
+fn answer_bounded<K: Sink>(
+    alloc: Global,
+    form: InputForm,
+    input: BoundedInput,
+    sink: &mut K,
+) -> Status
+    ensures told { Told (input_answer form input.bytes) result.0 (K.held sink.old) (K.held sink.new) }
+    ensures statuses { IsStatus result.0 × (result.0 ≢ 1) × (result.0 ≢ 3) × (result.0 ≢ 7) }
+    ensures no_fewer { K.faults sink.old ≤ K.faults sink.new }
+    ensures cause { result.0 ≡ 4 → Rose (K.faults sink.old) (K.faults sink.new) }
+{
     match answer(alloc, form, input) {
         Ok(reply) => tell_reply(alloc, sink, &reply),
         Err(Memory) => Status::MEMORY,
