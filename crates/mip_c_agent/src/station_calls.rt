@@ -1,12 +1,13 @@
 //! What a home agent that C holds does about each call.
 
-ghost use Rattle.std.specs.Prelude.{◌≡◌, true};
+ghost use Rattle.std.specs.Prelude.{◌≡◌, slice_get, true};
 ghost use Rattle.mip_rules_agent.specs.Calls as calls;
 ghost use Rattle.mip_rules_agent.specs.Calls.{claim_for};
+ghost use Rattle.mip_c_words.specs.Outboxes.{TellsNext};
 ghost use Rattle.mip_c_agent.specs.Neighbourhoods.{around_of};
 ghost use Rattle.mip_c_agent.specs.Shields.{shield_of};
 ghost use Rattle.mip_c_agent.specs.Sixteens.{are_addresses};
-ghost use Rattle.mip_c_agent.specs.Stations.{Answers as AnswersCall, Hears, TellsNextOf, TellsCareof, TellsRow, TellsDue};
+ghost use Rattle.mip_c_agent.specs.Stations.{Answers as AnswersCall, Hears, TellsCareof, TellsRow, TellsDue};
 
 use crate::neighbourhood::Neighbourhood;
 use crate::registration_fields;
@@ -122,7 +123,9 @@ impl Station {
 
     /// Tells the next answer of the last call.
     pub fn next(&mut self, fields: &mut AnswerFields, bytes: &mut [u8], size: &mut usize) -> u32
-        ensures { TellsNextOf self.old self.new result fields.old fields.new bytes.old bytes.new size.old size.new }
+        ensures next { TellsNext (slice_get self.old.outbox.answers self.old.outbox.given) self.old.outbox self.new.outbox result
+            fields.old fields.new bytes.old bytes.new size.old size.new }
+        ensures same { (self.new.node ≡ self.old.node) × (self.new.last ≡ self.old.last) }
     {
         self.outbox.next(fields, bytes, size)
     }

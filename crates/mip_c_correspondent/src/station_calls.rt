@@ -1,8 +1,9 @@
 //! What a correspondent that C holds does about each call.
 
-ghost use Rattle.std.specs.Prelude.{◌≡◌, None, true};
+ghost use Rattle.std.specs.Prelude.{◌≡◌, slice_get, None, true};
 ghost use Rattle.mip_rules_correspondent.specs.Calls as calls;
-ghost use Rattle.mip_c_correspondent.specs.Stations.{Answers as AnswersCall, Ticks, TellsNextOf, TellsRoute, TellsRow, is_sendable};
+ghost use Rattle.mip_c_words.specs.Outboxes.{TellsNext};
+ghost use Rattle.mip_c_correspondent.specs.Stations.{Answers as AnswersCall, Ticks, TellsRoute, TellsRow, is_sendable};
 
 use crate::row_fields;
 use crate::row_fields::RowFields;
@@ -109,7 +110,9 @@ impl Station {
 
     /// Tells the next answer of the last call.
     pub fn next(&mut self, fields: &mut AnswerFields, bytes: &mut [u8], size: &mut usize) -> u32
-        ensures { TellsNextOf self.old self.new result fields.old fields.new bytes.old bytes.new size.old size.new }
+        ensures next { TellsNext (slice_get self.old.outbox.answers self.old.outbox.given) self.old.outbox self.new.outbox result
+            fields.old fields.new bytes.old bytes.new size.old size.new }
+        ensures same { (self.new.node ≡ self.old.node) × (self.new.last ≡ self.old.last) }
     {
         self.outbox.next(fields, bytes, size)
     }

@@ -2,6 +2,7 @@ pub mod Addresses
 pub mod Answered
 pub mod Calls
 pub mod Giving
+pub mod Keeping
 pub mod Moments
 pub mod Outboxes
 pub mod Whys
