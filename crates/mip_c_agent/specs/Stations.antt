@@ -9,7 +9,7 @@ use Rattle.mip_rules_agent.specs.Questions.{fresh, careof_at, rows_at}
 use Rattle.mip_rules_agent.specs.Seen.{transition_at, called}
 use Rattle.mip_rules_agent.specs.Steps.{answers_of}
 use Rattle.mip_c_words.specs.Calls.{Does, TellsIf}
-use Rattle.mip_c_words.specs.Outboxes.{IsFilled}
+use Rattle.mip_c_words.specs.AnswerQueues.{IsFilled}
 use Rattle.mip_c_words.specs.Moments.{is_late}
 use Rattle.mip_c_agent.specs.declared.registration_fields.RegistrationFields.{RegistrationFields}
 use Rattle.mip_c_agent.specs.declared.station.Station.{Station}
@@ -18,7 +18,7 @@ use Rattle.mip_c_agent.specs.Registrations.{fields_of as registration_fields_of}
 -- a call was answered: the agent is what the call makes of it, and these are its answers
 abbrev pub IsAnswered : Station → Station → ℕ → Call → List Answer → Type 0
 IsAnswered s t now call answers =
-    (t.node ≡ called s.node now call) × IsFilled t.outbox answers × (t.last.0 ≡ now)
+    (t.node ≡ called s.node now call) × IsFilled t.queue answers × (t.last.0 ≡ now)
 
 -- with the answers of the call
 abbrev pub Answers : Bool → Station → Station → ℕ → Call → ℕ → Type 0
@@ -46,4 +46,4 @@ TellsDue s status old new = TellsIf false (option_map (λ e. e.end.0) (slice_get
 -- a station that begins: an agent of this identity, which serves these homes and was asked for nothing yet
 abbrev pub IsFresh : Identity → List Address → Station → Type 0
 IsFresh identity serves s =
-    (s.node ≡ record { identity = identity; known = fresh serves }) × (s.last.0 ≡ 0) × IsFilled s.outbox []
+    (s.node ≡ record { identity = identity; known = fresh serves }) × (s.last.0 ≡ 0) × IsFilled s.queue []

@@ -5,7 +5,7 @@ ghost use Rattle.mip_words.specs.Addresses.{address_at};
 ghost use Rattle.mip_rules_agent.specs.Calls as calls;
 ghost use Rattle.mip_rules_agent.specs.Calls.{claim_for};
 ghost use Rattle.mip_c_words.specs.Calls.{ByHandle, close_status};
-ghost use Rattle.mip_c_words.specs.Outboxes.{NextAt};
+ghost use Rattle.mip_c_words.specs.AnswerQueues.{NextAt};
 ghost use Rattle.mip_c_agent.specs.Handles.{Opens, CareofAt, RowAt, DueAt, can_serve};
 ghost use Rattle.mip_c_agent.specs.Neighbourhoods.{around_of};
 ghost use Rattle.mip_c_agent.specs.Shields.{shield_of};
@@ -19,7 +19,7 @@ use crate::sixteens::{addresses_in, are_addresses, are_served};
 use crate::station::Station;
 use mip_c_words::addresses::address_of;
 use mip_c_words::answer_fields::AnswerFields;
-use mip_c_words::outbox::Outbox;
+use mip_c_words::answer_queue::AnswerQueue;
 use mip_c_words::status::{ALREADY_OPEN, ARGUMENT, CLOSED, MEMORY, OK};
 use mip_entries::Answers;
 use mip_homeagent::HomeAgent;
@@ -49,7 +49,7 @@ fn fresh_station(
     let station = Station {
         node,
         last: Moment(0),
-        outbox: Outbox::of(answers),
+        queue: AnswerQueue::of(answers),
     };
     Ok(Box::new(alloc, station)?)
 }
@@ -230,7 +230,7 @@ pub extern "C" fn mip_agent_next(
     bytes: &mut [u8],
     size: &mut usize,
 ) -> u32
-    ensures next { NextAt (option_map (λ s. s.outbox) handle.old.held.value) (option_map (λ s. s.outbox) handle.new.held.value) result
+    ensures next { NextAt (option_map (λ s. s.queue) handle.old.held.value) (option_map (λ s. s.queue) handle.new.held.value) result
         fields.old fields.new bytes.old bytes.new size.old size.new }
     ensures same { option_map (λ s. (s.node, s.last)) handle.new.held.value ≡ option_map (λ s. (s.node, s.last)) handle.old.held.value }
 {

@@ -14,7 +14,7 @@ use Rattle.mip_rules_correspondent.specs.Steps.{answers_of}
 use Rattle.mip_c_correspondent.specs.declared.row_fields.RowFields.{RowFields}
 use Rattle.mip_c_correspondent.specs.declared.station.Station.{Station}
 use Rattle.mip_c_words.specs.Calls.{Does, TellsIf}
-use Rattle.mip_c_words.specs.Outboxes.{IsFilled}
+use Rattle.mip_c_words.specs.AnswerQueues.{IsFilled}
 use Rattle.mip_c_words.specs.Moments.{is_late}
 use Rattle.mip_c_correspondent.specs.Rows.{fields_of as row_fields_of}
 
@@ -25,7 +25,7 @@ is_sendable proto payload = is_data proto && not (names_no_body proto) && not (n
 -- a call was answered: the node is what the call makes of it, and its answers are those of the call
 abbrev pub IsAnswered : Station → Station → ℕ → Call → Type 0
 IsAnswered s t now call =
-    (t.node ≡ called s.node now call) × IsFilled t.outbox (answers_of (transition_at s.node now call).steps)
+    (t.node ≡ called s.node now call) × IsFilled t.queue (answers_of (transition_at s.node now call).steps)
     × (t.last.0 ≡ now)
 
 abbrev pub Answers : Bool → Station → Station → ℕ → Call → ℕ → Type 0
@@ -34,7 +34,7 @@ Answers fit s t now call status = Does (is_late s.last.0 now) fit s t status (Is
 -- time goes on: no answer is left
 abbrev pub Ticks : Station → Station → ℕ → ℕ → Type 0
 Ticks s t now status = Does (is_late s.last.0 now) true s t status
-    ((t.node ≡ called s.node now Tick) × IsFilled t.outbox [] × (t.last.0 ≡ now))
+    ((t.node ≡ called s.node now Tick) × IsFilled t.queue [] × (t.last.0 ≡ now))
 
 -- the care-of address that is held for a home is told
 abbrev pub TellsRoute : Station → ℕ → Address → ℕ → List ℕ → List ℕ → Type 0
@@ -50,7 +50,7 @@ TellsRow s now place status old new =
 abbrev pub IsFresh : Address → Life → ℕ → ℕ → Station → Type 0
 IsFresh own secrets room numbers s =
     (s.node ≡ record { identity = record { own = own; secrets = secrets; room = room }; known = fresh room numbers })
-    × (s.last.0 ≡ 0) × IsFilled s.outbox []
+    × (s.last.0 ≡ 0) × IsFilled s.queue []
 
 -- numbers of bindings and of homes that a node can have
 abbrev pub has_room : ℕ → ℕ → Bool

@@ -4,7 +4,7 @@ ghost use Rattle.std.specs.Prelude.{◌≡◌, ◌<◌, None, option_map, true, 
 ghost use Rattle.mip_words.specs.Addresses.{address_at};
 ghost use Rattle.mip_rules_correspondent.specs.Calls as calls;
 ghost use Rattle.mip_c_words.specs.Calls.{ByHandle, close_status};
-ghost use Rattle.mip_c_words.specs.Outboxes.{NextAt};
+ghost use Rattle.mip_c_words.specs.AnswerQueues.{NextAt};
 ghost use Rattle.mip_c_correspondent.specs.Stations.{Answers as AnswersCall, Ticks, is_sendable, has_room, IsFresh};
 ghost use Rattle.mip_c_correspondent.specs.Handles.{Opens, RouteAt, RowAt};
 
@@ -13,7 +13,7 @@ use crate::row_fields::RowFields;
 use crate::station::Station;
 use mip_c_words::addresses::address_of;
 use mip_c_words::answer_fields::AnswerFields;
-use mip_c_words::outbox::Outbox;
+use mip_c_words::answer_queue::AnswerQueue;
 use mip_c_words::status::{ALREADY_OPEN, ARGUMENT, CLOSED, MEMORY, OK};
 use mip_correspondent::Correspondent;
 use mip_entries::Answers;
@@ -43,7 +43,7 @@ fn fresh_station(
     Ok(Station {
         node,
         last: Moment(0),
-        outbox: Outbox::of(answers),
+        queue: AnswerQueue::of(answers),
     })
 }
 
@@ -214,7 +214,7 @@ pub extern "C" fn mip_correspondent_next(
     bytes: &mut [u8],
     size: &mut usize,
 ) -> u32
-    ensures next { NextAt (option_map (λ s. s.outbox) handle.old.held.value) (option_map (λ s. s.outbox) handle.new.held.value) result
+    ensures next { NextAt (option_map (λ s. s.queue) handle.old.held.value) (option_map (λ s. s.queue) handle.new.held.value) result
         fields.old fields.new bytes.old bytes.new size.old size.new }
     ensures same { option_map (λ s. (s.node, s.last)) handle.new.held.value ≡ option_map (λ s. (s.node, s.last)) handle.old.held.value }
 {
