@@ -72,7 +72,7 @@ fn is_placed(history: &[Entry], now: Moment, x: NodeId, own: Address, present: A
 }
 
 /// What a peer holds for the home is the present address, where it holds anything; at home it holds nothing.
-pub fn is_held_right(own: Address, present: Address, held: Option<Address>) -> bool
+fn is_held_right(own: Address, present: Address, held: Option<Address>) -> bool
     ensures { result ≡ is_held_right own present (option_map (λ a. a.0) held) }
 {
     match held {
@@ -82,7 +82,7 @@ pub fn is_held_right(own: Address, present: Address, held: Option<Address>) -> b
 }
 
 /// What a bound peer holds for the home is the present address.
-pub fn is_bound_right(bound: bool, present: Address, held: Option<Address>) -> bool
+fn is_bound_right(bound: bool, present: Address, held: Option<Address>) -> bool
     ensures { result ≡ is_bound_right bound present (option_map (λ a. a.0) held) }
 {
     if !bound {

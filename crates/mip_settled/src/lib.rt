@@ -9,5 +9,5 @@ mod laws;
 mod left;
 pub mod mobiles;
 
-pub use ends::{is_bound_right, is_held_right, settled};
+pub use ends::settled;
 pub use laws::{bound_as_told, found_as_told, registered_as_told};

@@ -9,7 +9,7 @@ ghost use Rattle.mip_entries.specs.declared.entry.Entry.TheVariants.{Settled};
 ghost use Rattle.mip_schedule.specs.declared.event.Event.{Event};
 ghost use Rattle.mip_history.specs.Setup.{Setup};
 ghost use Rattle.mip_history.specs.Permitted.{run_of};
-ghost use Rattle.mip_history.specs.Settled.{is_settled};
+ghost use Rattle.mip_history.specs.Settled.{is_held_right, is_bound_right, is_settled};
 ghost use Rattle.mip_roles.specs.Roles.{last_of};
 ghost use Rattle.mip_engine.specs.Engines.{with_entry};
 ghost use Rattle.mip_engine.specs.Settling.{has_home, has_home_there, is_with_agent, is_placed, is_settled_there, is_settled_to, are_settled};
@@ -18,7 +18,6 @@ ghost use Rattle.mip_engine.specs.Standing.{IsAt};
 use crate::engine::Engine;
 use mip_entries::Entry;
 use mip_roles::Node;
-use mip_settled::{is_bound_right, is_held_right};
 use mip_words::{Address, Holder, Memory, Moment, NodeId};
 
 /// There is an address, and it is this one.
@@ -37,6 +36,29 @@ fn is_held_by(holder: Option<Holder>, node: NodeId) -> bool
 {
     match holder {
         Some(holder) => holder.place() == usize::from(node.0),
+        None => false,
+    }
+}
+
+/// What a peer holds for the home is the present address, where it holds anything; at home it holds nothing.
+fn is_held_right(own: Address, present: Address, held: Option<Address>) -> bool
+    ensures { result ≡ is_held_right own present (option_map (λ a. a.0) held) }
+{
+    match held {
+        Some(careof) => careof.0 == present.0 && present.0 != own.0,
+        None => true,
+    }
+}
+
+/// What a bound peer holds for the home is the present address.
+fn is_bound_right(bound: bool, present: Address, held: Option<Address>) -> bool
+    ensures { result ≡ is_bound_right bound present (option_map (λ a. a.0) held) }
+{
+    if !bound {
+        return true;
+    }
+    match held {
+        Some(careof) => careof.0 == present.0,
         None => false,
     }
 }
