@@ -22,6 +22,7 @@ use Rattle.mip_schedule.specs.Reading.{reading}
 use Rattle.mip_schedule.proofs.FewLaws.{few_more, none_few}
 use Rattle.mip_schedule.proofs.LawfulLaws.{read_so}
 use Rattle.mip_history.specs.Setup.{Host, links_in, hosts_from, setup_of}
+use Rattle.mip_history.proofs.Declarations.{passed}
 use Rattle.mip_law_delivery.specs.Orderly.{IsOrderly}
 use Rattle.mip_law_delivery.proofs.Reading.{AreDeclared, within_of, serves_mobile}
 use Rattle.mip_law_delivery.proofs.Serving.{unserved}
