@@ -216,7 +216,8 @@ pub extern "C" fn mip_correspondent_next(
 ) -> u32
     ensures next { NextAt (option_map (λ s. s.queue) handle.old.held.value) (option_map (λ s. s.queue) handle.new.held.value) result
         fields.old fields.new bytes.old bytes.new size.old size.new }
-    ensures same { option_map (λ s. (s.node, s.last)) handle.new.held.value ≡ option_map (λ s. (s.node, s.last)) handle.old.held.value }
+    ensures node { option_map (λ s. s.node) handle.new.held.value ≡ option_map (λ s. s.node) handle.old.held.value }
+    ensures last { option_map (λ s. s.last) handle.new.held.value ≡ option_map (λ s. s.last) handle.old.held.value }
 {
     match take_out(alloc, handle) {
         Some(mut station) => {
