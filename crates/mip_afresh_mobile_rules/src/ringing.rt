@@ -1,7 +1,7 @@
 //! Due work (RFC 6275 sections 11.4.1, 11.7.1, 11.7.2 and 11.8).
 
 ghost use Rattle.std.specs.Prelude.{◌≡◌, OnOk};
-ghost use Rattle.mip_rules_mobile.specs.RingingRules.{renews_home, ends_home, rests_if_bound, ends_at, ends_row, rings_home, does_work, rings, ticks, ticks_all};
+ghost use Rattle.mip_rules_mobile.specs.RingingRules.{registers_if_away, ends_home, rests_if_bound, ends_at, ends_row, rings_home, does_work, rings, ticks, ticks_all};
 ghost use Rattle.mip_afresh_mobile_state.specs.Turns.{Goes};
 
 use crate::homes::{register, resend_home};
@@ -15,7 +15,7 @@ use std::alloc::Global;
 
 /// The registration is renewed, before it ends.
 fn renew_home(alloc: Global, turn: &mut Turn, standing: Attachment) -> Result<(), Memory>
-    ensures { Goes result (renews_home standing) turn.old turn.new }
+    ensures { Goes result (registers_if_away standing) turn.old turn.new }
 {
     match standing {
         Attachment::Detached => Ok(()),

@@ -1,5 +1,4 @@
 pub mod Handles
-pub mod Keeping
 pub mod Neighbourhoods
 pub mod Registrations
 pub mod Shields

@@ -1,5 +1,5 @@
 -- What the calls of a home agent that C holds tell, and what they make of it.
-use Rattle.std.specs.Prelude.{◌≡◌, ℕ, List, [], slice_get, Bool, true, false, Option, Some, None, option_map}
+use Rattle.std.specs.Prelude.{◌≡◌, ℕ, List, [], slice_get, Bool, true, false, option_map}
 use Rattle.mip_words.specs.Addresses.{address_bytes}
 use Rattle.mip_words.specs.declared.address.Address.{Address}
 use Rattle.mip_entries.specs.declared.answer.Answer.{Answer}
@@ -8,9 +8,8 @@ use Rattle.mip_rules_agent.specs.Calls.{Call}
 use Rattle.mip_rules_agent.specs.Questions.{fresh, careof_at, rows_at}
 use Rattle.mip_rules_agent.specs.Seen.{transition_at, called}
 use Rattle.mip_rules_agent.specs.Steps.{answers_of}
-use Rattle.mip_c_words.specs.declared.answer_fields.AnswerFields.{AnswerFields}
 use Rattle.mip_c_words.specs.Calls.{Does, TellsIf}
-use Rattle.mip_c_words.specs.Outboxes.{IsFilled, TellsNext}
+use Rattle.mip_c_words.specs.AnswerQueues.{IsFilled}
 use Rattle.mip_c_words.specs.Moments.{is_late}
 use Rattle.mip_c_agent.specs.declared.registration_fields.RegistrationFields.{RegistrationFields}
 use Rattle.mip_c_agent.specs.declared.station.Station.{Station}
@@ -19,7 +18,7 @@ use Rattle.mip_c_agent.specs.Registrations.{fields_of as registration_fields_of}
 -- a call was answered: the agent is what the call makes of it, and these are its answers
 abbrev pub IsAnswered : Station → Station → ℕ → Call → List Answer → Type 0
 IsAnswered s t now call answers =
-    (t.node ≡ called s.node now call) × IsFilled t.outbox answers × (t.last.0 ≡ now)
+    (t.node ≡ called s.node now call) × IsFilled t.queue answers × (t.last.0 ≡ now)
 
 -- with the answers of the call
 abbrev pub Answers : Bool → Station → Station → ℕ → Call → ℕ → Type 0
@@ -29,12 +28,6 @@ Answers fit s t now call status =
 -- with no answer
 abbrev pub Hears : Station → Station → ℕ → Call → ℕ → Type 0
 Hears s t now call status = Does (is_late s.last.0 now) true s t status (IsAnswered s t now call [])
-
--- the next answer is told, or that none is left; the rest stays
-abbrev pub TellsNextOf : Station → Station → ℕ → AnswerFields → AnswerFields → List ℕ → List ℕ → ℕ → ℕ → Type 0
-TellsNextOf s t status fields_old fields_new old new size_old size_new =
-    TellsNext (slice_get s.outbox.answers s.outbox.given) s.outbox t.outbox status fields_old fields_new old new size_old size_new
-    × (t.node ≡ s.node) × (t.last ≡ s.last)
 
 -- the care-of address that is registered for a home is told
 abbrev pub TellsCareof : Station → ℕ → Address → ℕ → List ℕ → List ℕ → Type 0
@@ -53,4 +46,4 @@ TellsDue s status old new = TellsIf false (option_map (λ e. e.end.0) (slice_get
 -- a station that begins: an agent of this identity, which serves these homes and was asked for nothing yet
 abbrev pub IsFresh : Identity → List Address → Station → Type 0
 IsFresh identity serves s =
-    (s.node ≡ record { identity = identity; known = fresh serves }) × (s.last.0 ≡ 0) × IsFilled s.outbox []
+    (s.node ≡ record { identity = identity; known = fresh serves }) × (s.last.0 ≡ 0) × IsFilled s.queue []

@@ -1,15 +1,16 @@
 //! A home agent by its handle.
 
-ghost use Rattle.std.specs.Prelude.{◌≡◌, None, true, is_some, IfOk, IfSome};
+ghost use Rattle.std.specs.Prelude.{◌≡◌, None, option_map, true, is_some, IfOk, IfSome};
 ghost use Rattle.mip_words.specs.Addresses.{address_at};
 ghost use Rattle.mip_rules_agent.specs.Calls as calls;
 ghost use Rattle.mip_rules_agent.specs.Calls.{claim_for};
-ghost use Rattle.mip_c_words.specs.Calls.{close_status};
-ghost use Rattle.mip_c_agent.specs.Handles.{Opens, AnswersAt, HearsAt, NextAt, CareofAt, RowAt, DueAt, can_serve};
+ghost use Rattle.mip_c_words.specs.Calls.{ByHandle, close_status};
+ghost use Rattle.mip_c_words.specs.AnswerQueues.{NextAt};
+ghost use Rattle.mip_c_agent.specs.Handles.{Opens, CareofAt, RowAt, DueAt, can_serve};
 ghost use Rattle.mip_c_agent.specs.Neighbourhoods.{around_of};
 ghost use Rattle.mip_c_agent.specs.Shields.{shield_of};
 ghost use Rattle.mip_c_agent.specs.Sixteens.{are_addresses, addresses_in, are_served};
-ghost use Rattle.mip_c_agent.specs.Stations.{IsFresh};
+ghost use Rattle.mip_c_agent.specs.Stations.{Answers as AnswersCall, Hears, IsFresh};
 
 use crate::agent_handle::{AgentHandle, put_in, take_out};
 use crate::registration_fields::RegistrationFields;
@@ -18,7 +19,7 @@ use crate::sixteens::{addresses_in, are_addresses, are_served};
 use crate::station::Station;
 use mip_c_words::addresses::address_of;
 use mip_c_words::answer_fields::AnswerFields;
-use mip_c_words::outbox::Outbox;
+use mip_c_words::answer_queue::AnswerQueue;
 use mip_c_words::status::{ALREADY_OPEN, ARGUMENT, CLOSED, MEMORY, OK};
 use mip_entries::Answers;
 use mip_homeagent::HomeAgent;
@@ -48,7 +49,7 @@ fn fresh_station(
     let station = Station {
         node,
         last: Moment(0),
-        outbox: Outbox::of(answers),
+        queue: AnswerQueue::of(answers),
     };
     Ok(Box::new(alloc, station)?)
 }
@@ -141,8 +142,8 @@ pub extern "C" fn mip_agent_take(
     others: &[u8],
     packet: &[u8],
 ) -> u32
-    ensures { AnswersAt (are_addresses others.now) handle.old.held.value handle.new.held.value now
-        (calls.Take number (shield_of shield.now) packet.now (claim_for (around_of others.now) packet.now)) result }
+    ensures { ByHandle handle.old.held.value handle.new.held.value result (λ s t. AnswersCall (are_addresses others.now) s t now
+        (calls.Take number (shield_of shield.now) packet.now (claim_for (around_of others.now) packet.now)) result) }
 {
     match take_out(alloc, handle) {
         Some(mut station) => {
@@ -159,7 +160,7 @@ pub extern "C" fn mip_agent_take(
 /// Tells `MIP_OK`; `MIP_CLOSED`; `MIP_LATE`; `MIP_MEMORY`. After each but `MIP_OK` the agent and its answers are as they were.
 #[unsafe(no_mangle)]
 pub extern "C" fn mip_agent_tick(alloc: Global, handle: &mut AgentHandle, now: u64) -> u32
-    ensures { AnswersAt true handle.old.held.value handle.new.held.value now calls.Tick result }
+    ensures { ByHandle handle.old.held.value handle.new.held.value result (λ s t. AnswersCall true s t now calls.Tick result) }
 {
     match take_out(alloc, handle) {
         Some(mut station) => {
@@ -182,7 +183,7 @@ pub extern "C" fn mip_agent_plan(
     valid: u32,
     preferred: u32,
 ) -> u32
-    ensures { AnswersAt true handle.old.held.value handle.new.held.value now (calls.Plan valid preferred) result }
+    ensures { ByHandle handle.old.held.value handle.new.held.value result (λ s t. AnswersCall true s t now (calls.Plan valid preferred) result) }
 {
     match take_out(alloc, handle) {
         Some(mut station) => {
@@ -206,7 +207,7 @@ pub extern "C" fn mip_agent_heard(
     preference: u16,
     life: u16,
 ) -> u32
-    ensures { HearsAt handle.old.held.value handle.new.held.value now (calls.Hear (address_at 0 agent.now) preference life) result }
+    ensures { ByHandle handle.old.held.value handle.new.held.value result (λ s t. Hears s t now (calls.Hear (address_at 0 agent.now) preference life) result) }
 {
     match take_out(alloc, handle) {
         Some(mut station) => {
@@ -229,7 +230,10 @@ pub extern "C" fn mip_agent_next(
     bytes: &mut [u8],
     size: &mut usize,
 ) -> u32
-    ensures { NextAt handle.old.held.value handle.new.held.value result fields.old fields.new bytes.old bytes.new size.old size.new }
+    ensures next { NextAt (option_map (λ s. s.queue) handle.old.held.value) (option_map (λ s. s.queue) handle.new.held.value) result
+        fields.old fields.new bytes.old bytes.new size.old size.new }
+    ensures node { option_map (λ s. s.node) handle.new.held.value ≡ option_map (λ s. s.node) handle.old.held.value }
+    ensures last { option_map (λ s. s.last) handle.new.held.value ≡ option_map (λ s. s.last) handle.old.held.value }
 {
     match take_out(alloc, handle) {
         Some(mut station) => {

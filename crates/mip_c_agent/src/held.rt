@@ -1,7 +1,9 @@
 //! A station behind a pointer that C carries, and how it goes in and out.
 
 ghost use Rattle.std.specs.Prelude.{◌≡◌, Some, None, Option, is_some, true};
-ghost use Rattle.mip_c_agent.specs.Keeping.{Kept, kept_code, keeps};
+ghost use Rattle.std.specs.Coded.{coded_option};
+ghost use Rattle.mip_c_words.specs.Keeping.{keeps};
+ghost use Rattle.mip_c_agent.specs.contracts.station.Station.{the_row as station_row};
 
 use crate::station::Station;
 use mip_c_words::loose::Loose;
@@ -20,11 +22,11 @@ pub struct Opaque {
 #[derive(Drop)]
 pub struct Held {
     at: *mut Opaque,
-    pub ghost value: { Option Kept } by { kept_code },
+    pub ghost value: { Option station_row.Denot } by { coded_option station_row.coded },
 }
 
 impl Model for Held {
-    ghost also_owns = { λ h. keeps h.at h.value };
+    ghost also_owns = { λ h. keeps station_row h.at h.value };
 }
 
 impl Held {

@@ -1,12 +1,13 @@
 //! What a home agent that C holds does about each call.
 
-ghost use Rattle.std.specs.Prelude.{◌≡◌, true};
+ghost use Rattle.std.specs.Prelude.{◌≡◌, slice_get, true};
 ghost use Rattle.mip_rules_agent.specs.Calls as calls;
 ghost use Rattle.mip_rules_agent.specs.Calls.{claim_for};
+ghost use Rattle.mip_c_words.specs.AnswerQueues.{TellsNext};
 ghost use Rattle.mip_c_agent.specs.Neighbourhoods.{around_of};
 ghost use Rattle.mip_c_agent.specs.Shields.{shield_of};
 ghost use Rattle.mip_c_agent.specs.Sixteens.{are_addresses};
-ghost use Rattle.mip_c_agent.specs.Stations.{Answers as AnswersCall, Hears, TellsNextOf, TellsCareof, TellsRow, TellsDue};
+ghost use Rattle.mip_c_agent.specs.Stations.{Answers as AnswersCall, Hears, TellsCareof, TellsRow, TellsDue};
 
 use crate::neighbourhood::Neighbourhood;
 use crate::registration_fields;
@@ -15,8 +16,8 @@ use crate::shield_fields::{ShieldFields, shield_of};
 use crate::sixteens::are_addresses;
 use crate::station::Station;
 use mip_c_words::answer_fields::AnswerFields;
+use mip_c_words::answer_queue::AnswerQueue;
 use mip_c_words::moments::is_late;
-use mip_c_words::outbox::Outbox;
 use mip_c_words::status::{ARGUMENT, LATE, MEMORY, NONE, OK};
 use mip_entries::Answers;
 use mip_words::{Address, Memory, Moment};
@@ -51,7 +52,7 @@ impl Station {
         {
             Ok(answers) => {
                 self.last = now;
-                self.outbox = Outbox::of(answers);
+                self.queue = AnswerQueue::of(answers);
                 OK
             }
             Err(Memory) => MEMORY,
@@ -69,7 +70,7 @@ impl Station {
         match self.node.tick(alloc, &mut place, now) {
             Ok(answers) => {
                 self.last = now;
-                self.outbox = Outbox::of(answers);
+                self.queue = AnswerQueue::of(answers);
                 OK
             }
             Err(Memory) => MEMORY,
@@ -86,7 +87,7 @@ impl Station {
         match self.node.plan(alloc, now, valid, preferred) {
             Ok(answers) => {
                 self.last = now;
-                self.outbox = Outbox::of(answers);
+                self.queue = AnswerQueue::of(answers);
                 OK
             }
             Err(Memory) => MEMORY,
@@ -111,7 +112,7 @@ impl Station {
             Ok(answers) => match self.node.heard(now, agent, preference, life) {
                 Ok(()) => {
                     self.last = now;
-                    self.outbox = Outbox::of(answers);
+                    self.queue = AnswerQueue::of(answers);
                     OK
                 }
                 Err(Memory) => MEMORY,
@@ -122,9 +123,11 @@ impl Station {
 
     /// Tells the next answer of the last call.
     pub fn next(&mut self, fields: &mut AnswerFields, bytes: &mut [u8], size: &mut usize) -> u32
-        ensures { TellsNextOf self.old self.new result fields.old fields.new bytes.old bytes.new size.old size.new }
+        ensures next { TellsNext (slice_get self.old.queue.answers self.old.queue.given) self.old.queue self.new.queue result
+            fields.old fields.new bytes.old bytes.new size.old size.new }
+        ensures same { (self.new.node ≡ self.old.node) × (self.new.last ≡ self.old.last) }
     {
-        self.outbox.next(fields, bytes, size)
+        self.queue.next(fields, bytes, size)
     }
 
     /// Tells the care-of address that is registered for a home.

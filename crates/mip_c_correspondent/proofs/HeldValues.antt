@@ -1,35 +1,31 @@
 -- The machine values of a `Held`. Assumes `Logic`.
 use Rattle.std.proofs.Common.{◌≡◌, List, [], ◌∷◌, ◌++◌, refl, subst}
 use seplogic.Ra.Ura.{Ura}
-use mir.Val.{Val, vstruct, vcons, vnil, of_list}
+use mir.Val.{Val, vstruct, of_list}
 use types.Logic.{Logic}
 use types.Kit.{Item, Goal, Seq, Step, step, ‵, ◌$◌, drop, fsplit, fjoin, fpick, fpack, feq_i, feq_l}
-use denote.RattleType.{RattleType, Valss}
+use denote.RattleType.{Valss}
 use denote.Builtin.{RawPtr}
 use denote.RawPtr.{Ptr, ptr_val}
 use denote.Steps.{nothing}
 use denote.Struct.Struct.{within}
 use denote.Struct.Owning.{shape}
 use Rattle.std.specs.Prelude.{Option}
-use Rattle.mip_c_correspondent.specs.Keeping.{Kept, keeps}
+use Rattle.mip_c_words.specs.Keeping.{keeps}
+use Rattle.mip_c_words.proofs.Values.{word}
+use Rattle.mip_c_correspondent.specs.contracts.station.Station as station
 use Rattle.mip_c_correspondent.specs.contracts.held.Held as held
 
-abbrev pub Held : RattleType
-Held = held.the_row
-
-abbrev pub word : Ptr → Val
-word p = vstruct (vcons (ptr_val p) vnil)
-
 module _ {M : Type 1} {𝓤 : Ura M} {𝓛 : Logic 𝓤} {K : Type 0} {Γ : List (Item 𝓤)} {G : Goal 𝓤 𝓛.H} where
-  pub held_out : K → (d : Held.Denot) (vs : List Val)
-      → (vs ≡ word d.at ∷ [] → Seq K 𝓛 (‵ (keeps d.at d.value) ∷ Γ) G)
-      → Seq K 𝓛 (‵ (Held.own_val d vs) ∷ Γ) G
+  pub held_out : K → (d : held.the_row.Denot) (vs : List Val)
+      → (vs ≡ word d.at ∷ [] → Seq K 𝓛 (‵ (keeps station.the_row d.at d.value) ∷ Γ) G)
+      → Seq K 𝓛 (‵ (held.the_row.own_val d vs) ∷ Γ) G
   held_out t d vs k =
       fsplit t $ fpick t (λ vss. fsplit t $ feq_l t (λ ev. fsplit t $ feq_l t (λ ep. drop t $
       k (subst (λ (ps : List Val). vs ≡ vstruct (of_list (ps ++ [])) ∷ []) ep ev))))
 
-  pub held_in : K → (p : Ptr) (x : Option Kept)
-      → Step K 𝓛 (‵ (Held.own_val (record { at = p; value = x }) (word p ∷ [])) ∷ Γ) G (‵ (keeps p x) ∷ Γ) G
+  pub held_in : K → (p : Ptr) (x : Option station.the_row.Denot)
+      → Step K 𝓛 (‵ (held.the_row.own_val (record { at = p; value = x }) (word p ∷ [])) ∷ Γ) G (‵ (keeps station.the_row p x) ∷ Γ) G
   held_in t p x = step (λ s. let v : Val = word p in
       nothing t $ feq_i t (List Val) (ptr_val p ∷ []) (ptr_val p ∷ []) refl $ fjoin t $ feq_i t (List Val) (v ∷ []) (v ∷ []) refl $ fjoin t $
       fpack t (Valss (RawPtr ∷ [])) (within (shape held.the_type) (p, tt) (v ∷ [])) (ptr_val p ∷ [], tt) $ fjoin t $ s)

@@ -1,4 +1,3 @@
 pub mod Handles
-pub mod Keeping
 pub mod Rows
 pub mod Stations

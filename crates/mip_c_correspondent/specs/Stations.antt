@@ -1,22 +1,20 @@
 -- What the calls of a correspondent that C holds tell, and what they make of it.
-use Rattle.std.specs.Prelude.{◌≡◌, ℕ, ◌*◌, ◌^◌, List, [], length, slice_get, Bool, true, not, ◌&&◌, nat_lt, Option, Some, None, option_map}
+use Rattle.std.specs.Prelude.{◌≡◌, ℕ, ◌*◌, ◌^◌, List, [], length, slice_get, Bool, true, not, ◌&&◌, nat_lt, option_map}
 use Rattle.mip_words.specs.Addresses.{address_bytes}
 use Rattle.mip_words.specs.declared.address.Address.{Address}
 use Rattle.mip_ipv6.specs.Packet.{names_no_body}
 use Rattle.mip_nonce.specs.Secrets.{Life}
 use Rattle.mip_bcache.specs.Seen.{rows_at}
-use Rattle.mip_entries.specs.declared.answer.Answer.{Answer}
 use Rattle.mip_rules_correspondent.specs.Calls.{Call}
 use Rattle.mip_rules_correspondent.specs.Calls.Call.{Tick}
 use Rattle.mip_rules_correspondent.specs.Questions.{fresh, held_of}
 use Rattle.mip_rules_correspondent.specs.Rules.{is_data}
 use Rattle.mip_rules_correspondent.specs.Seen.{transition_at, called}
 use Rattle.mip_rules_correspondent.specs.Steps.{answers_of}
-use Rattle.mip_c_words.specs.declared.answer_fields.AnswerFields.{AnswerFields}
 use Rattle.mip_c_correspondent.specs.declared.row_fields.RowFields.{RowFields}
 use Rattle.mip_c_correspondent.specs.declared.station.Station.{Station}
 use Rattle.mip_c_words.specs.Calls.{Does, TellsIf}
-use Rattle.mip_c_words.specs.Outboxes.{IsFilled, TellsNext}
+use Rattle.mip_c_words.specs.AnswerQueues.{IsFilled}
 use Rattle.mip_c_words.specs.Moments.{is_late}
 use Rattle.mip_c_correspondent.specs.Rows.{fields_of as row_fields_of}
 
@@ -27,7 +25,7 @@ is_sendable proto payload = is_data proto && not (names_no_body proto) && not (n
 -- a call was answered: the node is what the call makes of it, and its answers are those of the call
 abbrev pub IsAnswered : Station → Station → ℕ → Call → Type 0
 IsAnswered s t now call =
-    (t.node ≡ called s.node now call) × IsFilled t.outbox (answers_of (transition_at s.node now call).steps)
+    (t.node ≡ called s.node now call) × IsFilled t.queue (answers_of (transition_at s.node now call).steps)
     × (t.last.0 ≡ now)
 
 abbrev pub Answers : Bool → Station → Station → ℕ → Call → ℕ → Type 0
@@ -36,13 +34,7 @@ Answers fit s t now call status = Does (is_late s.last.0 now) fit s t status (Is
 -- time goes on: no answer is left
 abbrev pub Ticks : Station → Station → ℕ → ℕ → Type 0
 Ticks s t now status = Does (is_late s.last.0 now) true s t status
-    ((t.node ≡ called s.node now Tick) × IsFilled t.outbox [] × (t.last.0 ≡ now))
-
--- the next answer is told, or that none is left; the rest stays
-abbrev pub TellsNextOf : Station → Station → ℕ → AnswerFields → AnswerFields → List ℕ → List ℕ → ℕ → ℕ → Type 0
-TellsNextOf s t status fields_old fields_new old new size_old size_new =
-    TellsNext (slice_get s.outbox.answers s.outbox.given) s.outbox t.outbox status fields_old fields_new old new size_old size_new
-    × (t.node ≡ s.node) × (t.last ≡ s.last)
+    ((t.node ≡ called s.node now Tick) × IsFilled t.queue [] × (t.last.0 ≡ now))
 
 -- the care-of address that is held for a home is told
 abbrev pub TellsRoute : Station → ℕ → Address → ℕ → List ℕ → List ℕ → Type 0
@@ -58,7 +50,7 @@ TellsRow s now place status old new =
 abbrev pub IsFresh : Address → Life → ℕ → ℕ → Station → Type 0
 IsFresh own secrets room numbers s =
     (s.node ≡ record { identity = record { own = own; secrets = secrets; room = room }; known = fresh room numbers })
-    × (s.last.0 ≡ 0) × IsFilled s.outbox []
+    × (s.last.0 ≡ 0) × IsFilled s.queue []
 
 -- numbers of bindings and of homes that a node can have
 abbrev pub has_room : ℕ → ℕ → Bool

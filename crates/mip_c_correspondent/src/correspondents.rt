@@ -1,18 +1,19 @@
 //! A correspondent node by its handle.
 
-ghost use Rattle.std.specs.Prelude.{◌≡◌, ◌<◌, None, true, IfOk};
+ghost use Rattle.std.specs.Prelude.{◌≡◌, ◌<◌, None, option_map, true, IfOk};
 ghost use Rattle.mip_words.specs.Addresses.{address_at};
 ghost use Rattle.mip_rules_correspondent.specs.Calls as calls;
-ghost use Rattle.mip_c_words.specs.Calls.{close_status};
-ghost use Rattle.mip_c_correspondent.specs.Stations.{is_sendable, has_room, IsFresh};
-ghost use Rattle.mip_c_correspondent.specs.Handles.{Opens, AnswersAt, TicksAt, NextAt, RouteAt, RowAt};
+ghost use Rattle.mip_c_words.specs.Calls.{ByHandle, close_status};
+ghost use Rattle.mip_c_words.specs.AnswerQueues.{NextAt};
+ghost use Rattle.mip_c_correspondent.specs.Stations.{Answers as AnswersCall, Ticks, is_sendable, has_room, IsFresh};
+ghost use Rattle.mip_c_correspondent.specs.Handles.{Opens, RouteAt, RowAt};
 
 use crate::correspondent_handle::{CorrespondentHandle, put_in, take_out};
 use crate::row_fields::RowFields;
 use crate::station::Station;
 use mip_c_words::addresses::address_of;
 use mip_c_words::answer_fields::AnswerFields;
-use mip_c_words::outbox::Outbox;
+use mip_c_words::answer_queue::AnswerQueue;
 use mip_c_words::status::{ALREADY_OPEN, ARGUMENT, CLOSED, MEMORY, OK};
 use mip_correspondent::Correspondent;
 use mip_entries::Answers;
@@ -42,7 +43,7 @@ fn fresh_station(
     Ok(Station {
         node,
         last: Moment(0),
-        outbox: Outbox::of(answers),
+        queue: AnswerQueue::of(answers),
     })
 }
 
@@ -122,7 +123,7 @@ pub extern "C" fn mip_correspondent_take(
     number: u64,
     packet: &[u8],
 ) -> u32
-    ensures { AnswersAt true handle.old.held.value handle.new.held.value now (calls.Take number None packet.now) result }
+    ensures { ByHandle handle.old.held.value handle.new.held.value result (λ s t. AnswersCall true s t now (calls.Take number None packet.now) result) }
 {
     match take_out(alloc, handle) {
         Some(mut station) => {
@@ -147,8 +148,8 @@ pub extern "C" fn mip_correspondent_send(
     proto: u8,
     payload: &[u8],
 ) -> u32
-    ensures { AnswersAt (is_sendable proto payload.now) handle.old.held.value handle.new.held.value now
-        (calls.Send (address_at 0 to.now) proto payload.now) result }
+    ensures { ByHandle handle.old.held.value handle.new.held.value result (λ s t. AnswersCall (is_sendable proto payload.now) s t now
+        (calls.Send (address_at 0 to.now) proto payload.now) result) }
 {
     match take_out(alloc, handle) {
         Some(mut station) => {
@@ -170,7 +171,7 @@ pub extern "C" fn mip_correspondent_refresh(
     now: u64,
     home: &[u8; 16],
 ) -> u32
-    ensures { AnswersAt true handle.old.held.value handle.new.held.value now (calls.Refresh (address_at 0 home.now)) result }
+    ensures { ByHandle handle.old.held.value handle.new.held.value result (λ s t. AnswersCall true s t now (calls.Refresh (address_at 0 home.now)) result) }
 {
     match take_out(alloc, handle) {
         Some(mut station) => {
@@ -190,7 +191,7 @@ pub extern "C" fn mip_correspondent_tick(
     handle: &mut CorrespondentHandle,
     now: u64,
 ) -> u32
-    ensures { TicksAt handle.old.held.value handle.new.held.value now result }
+    ensures { ByHandle handle.old.held.value handle.new.held.value result (λ s t. Ticks s t now result) }
 {
     match take_out(alloc, handle) {
         Some(mut station) => {
@@ -213,7 +214,10 @@ pub extern "C" fn mip_correspondent_next(
     bytes: &mut [u8],
     size: &mut usize,
 ) -> u32
-    ensures { NextAt handle.old.held.value handle.new.held.value result fields.old fields.new bytes.old bytes.new size.old size.new }
+    ensures next { NextAt (option_map (λ s. s.queue) handle.old.held.value) (option_map (λ s. s.queue) handle.new.held.value) result
+        fields.old fields.new bytes.old bytes.new size.old size.new }
+    ensures node { option_map (λ s. s.node) handle.new.held.value ≡ option_map (λ s. s.node) handle.old.held.value }
+    ensures last { option_map (λ s. s.last) handle.new.held.value ≡ option_map (λ s. s.last) handle.old.held.value }
 {
     match take_out(alloc, handle) {
         Some(mut station) => {

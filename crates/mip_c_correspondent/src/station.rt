@@ -1,6 +1,6 @@
 ghost use Rattle.std.specs.Prelude.{◌≡◌};
 
-use mip_c_words::outbox::Outbox;
+use mip_c_words::answer_queue::AnswerQueue;
 use mip_correspondent::Correspondent;
 use mip_words::Moment;
 
@@ -9,6 +9,6 @@ use mip_words::Moment;
 pub struct Station {
     pub node: Correspondent,
     pub last: Moment,
-    pub outbox: Outbox,
+    pub queue: AnswerQueue,
     pub ghost tied: { node.known.last.0 ≡ last.0 },
 }

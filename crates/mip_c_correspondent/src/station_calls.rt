@@ -1,15 +1,16 @@
 //! What a correspondent that C holds does about each call.
 
-ghost use Rattle.std.specs.Prelude.{◌≡◌, None, true};
+ghost use Rattle.std.specs.Prelude.{◌≡◌, slice_get, None, true};
 ghost use Rattle.mip_rules_correspondent.specs.Calls as calls;
-ghost use Rattle.mip_c_correspondent.specs.Stations.{Answers as AnswersCall, Ticks, TellsNextOf, TellsRoute, TellsRow, is_sendable};
+ghost use Rattle.mip_c_words.specs.AnswerQueues.{TellsNext};
+ghost use Rattle.mip_c_correspondent.specs.Stations.{Answers as AnswersCall, Ticks, TellsRoute, TellsRow, is_sendable};
 
 use crate::row_fields;
 use crate::row_fields::RowFields;
 use crate::station::Station;
 use mip_c_words::answer_fields::AnswerFields;
+use mip_c_words::answer_queue::AnswerQueue;
 use mip_c_words::moments::is_late;
-use mip_c_words::outbox::Outbox;
 use mip_c_words::status::{ARGUMENT, LATE, MEMORY, NONE, OK};
 use mip_entries::Answers;
 use mip_words::protocol::{ICMPV6, IPV6, MOBILITY_HEADER, NO_NEXT_HEADER};
@@ -38,7 +39,7 @@ impl Station {
         match self.node.take(alloc, now, number, None, packet) {
             Ok(answers) => {
                 self.last = now;
-                self.outbox = Outbox::of(answers);
+                self.queue = AnswerQueue::of(answers);
                 OK
             }
             Err(Memory) => MEMORY,
@@ -55,7 +56,7 @@ impl Station {
         match self.node.refresh(alloc, now, home) {
             Ok(answers) => {
                 self.last = now;
-                self.outbox = Outbox::of(answers);
+                self.queue = AnswerQueue::of(answers);
                 OK
             }
             Err(Memory) => MEMORY,
@@ -82,7 +83,7 @@ impl Station {
         match self.node.send(alloc, now, to, proto, payload) {
             Ok(answers) => {
                 self.last = now;
-                self.outbox = Outbox::of(answers);
+                self.queue = AnswerQueue::of(answers);
                 OK
             }
             Err(Memory) => MEMORY,
@@ -100,7 +101,7 @@ impl Station {
             Ok(answers) => {
                 self.node.tick(now);
                 self.last = now;
-                self.outbox = Outbox::of(answers);
+                self.queue = AnswerQueue::of(answers);
                 OK
             }
             Err(Memory) => MEMORY,
@@ -109,9 +110,11 @@ impl Station {
 
     /// Tells the next answer of the last call.
     pub fn next(&mut self, fields: &mut AnswerFields, bytes: &mut [u8], size: &mut usize) -> u32
-        ensures { TellsNextOf self.old self.new result fields.old fields.new bytes.old bytes.new size.old size.new }
+        ensures next { TellsNext (slice_get self.old.queue.answers self.old.queue.given) self.old.queue self.new.queue result
+            fields.old fields.new bytes.old bytes.new size.old size.new }
+        ensures same { (self.new.node ≡ self.old.node) × (self.new.last ≡ self.old.last) }
     {
-        self.outbox.next(fields, bytes, size)
+        self.queue.next(fields, bytes, size)
     }
 
     /// Tells the care-of address that is held for a home.

@@ -28,6 +28,9 @@ use Rattle.mip_c_words.specs.contracts.loose.Loose as loose
 abbrev pub both : Val → Val → Val
 both v w = vstruct (vcons v (vcons w vnil))
 
+abbrev pub word : Ptr → Val
+word p = vstruct (vcons (ptr_val p) vnil)
+
 pub both_tt : (x y : Bool) → T x → T y → T (x && (y && true))
 both_tt true true s t = tt
 both_tt true false s t = absurd t

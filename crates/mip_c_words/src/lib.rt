@@ -5,9 +5,9 @@
 pub mod addresses;
 pub mod answer_fields;
 pub mod answer_kind;
+pub mod answer_queue;
 pub mod giving;
 pub mod loose;
 pub mod moments;
-pub mod outbox;
 pub mod status;
 pub mod why_number;

@@ -20,7 +20,8 @@ passed : {A : Type 0} (b : Bool) (r : Result A Reason) (why : Reason) (x : A) �
 passed true r why x e = (refl, e)
 passed false r why x e = absurd cc
 
-unrefused : {A : Type 0} (b : Bool) (why : Reason) (r : Result A Reason) (x : A) → cond b (Err why) r ≡ Ok x → (b ≡ false) × (r ≡ Ok x)
+-- an `Ok` behind a refusal
+pub unrefused : {A : Type 0} (b : Bool) (why : Reason) (r : Result A Reason) (x : A) → cond b (Err why) r ≡ Ok x → (b ≡ false) × (r ≡ Ok x)
 unrefused true why r x e = absurd cc
 unrefused false why r x e = (refl, e)
 

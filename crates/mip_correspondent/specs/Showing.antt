@@ -2,11 +2,13 @@
 use Rattle.std.specs.Prelude.{◌≡◌, ◌≢◌, ◌<◌, ℕ, List, true, false, Option, Some, None, IfSome, Result, IfOk, OnOk}
 use Rattle.mip_words.specs.Addresses.{is_routable}
 use Rattle.mip_entries.specs.declared.answer.Answer.{Answer}
+use Rattle.mip_entries.specs.Shows.{ShowsBy}
 use Rattle.mip_bcache.specs.Seen.{CacheSeen, with_acceptance, has_no_room}
 use Rattle.mip_rules_correspondent.specs.declared.known.Known.{Known}
 use Rattle.mip_rules_correspondent.specs.declared.verdict.Verdict.{Verdict}
 use Rattle.mip_rules_correspondent.specs.declared.verdict.Verdict.TheVariants.{Refuse, Deny, Accept}
-use Rattle.mip_rules_correspondent.specs.Transitions.{Transition, ShowsAt}
+use Rattle.mip_rules_correspondent.specs.Steps.{answer_of}
+use Rattle.mip_rules_correspondent.specs.Transitions.{Transition}
 use Rattle.mip_correspondent.specs.declared.accepted_binding.AcceptedBinding.{AcceptedBinding}
 
 -- what is known after a call at a moment, which left this cache
@@ -15,7 +17,7 @@ left now cache = record { last = record { 0 = now }; cache = cache }
 
 -- a transition at a moment: the last call is of then, this cache is left, and these are the answers
 abbrev pub Shows : (now : ℕ) (cache : CacheSeen) (answers : List Answer) → Transition → Type 0
-Shows now cache answers t = ShowsAt now (left now cache) answers t
+Shows now cache answers t = ShowsBy answer_of now (left now cache) answers t
 
 -- a cache with an accepted update, if there is one
 abbrev pub with_kept : ℕ → Option AcceptedBinding → CacheSeen → CacheSeen

@@ -8,6 +8,7 @@ ghost use Rattle.mip_correspondent.specs.Showing.{Goes, Keeps};
 
 use crate::accepted_binding::AcceptedBinding;
 use mip_entries::{Answer, Answers, Entry};
+use mip_reception::{denied, dropped};
 use mip_tokens::Witness;
 use mip_words::{Address, Bytes, MYSELF, Memory, Why};
 use std::alloc::Global;
@@ -43,11 +44,7 @@ pub fn send(answers: &mut Answers, packet: Bytes) -> Result<(), Memory>
 pub fn drop_packet(answers: &mut Answers, number: u64, why: Why) -> Result<(), Memory>
     ensures { (now : ℕ) → Goes now result (noted (Drops number why)) answers.old answers.new }
 {
-    answers.push(Answer::Note(Entry::Dropped {
-        node: MYSELF,
-        number,
-        why,
-    }))?;
+    answers.push(dropped(number, why))?;
     Ok(())
 }
 
@@ -55,11 +52,7 @@ pub fn drop_packet(answers: &mut Answers, number: u64, why: Why) -> Result<(), M
 pub fn note_denial(answers: &mut Answers, number: u64, status: u8) -> Result<(), Memory>
     ensures { (now : ℕ) → Goes now result (noted (Denies number status)) answers.old answers.new }
 {
-    answers.push(Answer::Note(Entry::Denied {
-        node: MYSELF,
-        number,
-        status,
-    }))?;
+    answers.push(denied(number, status))?;
     Ok(())
 }
 

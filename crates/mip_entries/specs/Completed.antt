@@ -10,6 +10,10 @@ use Rattle.mip_entries.specs.declared.entry.Entry.TheVariants.{Claimed, Released
 abbrev pub node_id : ℕ → NodeId
 node_id n = record { 0 = n }
 
+-- a role writes 0 for its own number
+abbrev pub myself : NodeId
+myself = node_id 0
+
 abbrev pub link_id : ℕ → LinkId
 link_id l = record { 0 = l }
 

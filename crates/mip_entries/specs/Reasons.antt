@@ -1,5 +1,5 @@
 -- Which reasons stand in which entries.
-use Rattle.std.specs.Prelude.{Bool, true, false}
+use Rattle.std.specs.Prelude.{ℕ, ◌≤◌, Bool, true, false}
 use Rattle.mip_words.specs.declared.why.Why.{Why}
 use Rattle.mip_words.specs.declared.why.Why.TheVariants as whys
 
@@ -28,3 +28,7 @@ is_dropped_why whys.Detached = false
 is_dropped_why whys.Unregistered = false
 is_dropped_why whys.NoRoute = false
 is_dropped_why _ = true
+
+-- one of the three reasons why an acceptance is forged
+abbrev pub IsCause : ℕ → Type 0
+IsCause cause = (1 ≤ cause) × (cause ≤ 3)

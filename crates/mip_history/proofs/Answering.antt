@@ -9,6 +9,7 @@ use Rattle.mip_entries.specs.declared.answer.Answer.TheVariants.{Send, Note}
 use Rattle.mip_entries.specs.declared.entry.Entry.{Entry}
 use Rattle.mip_entries.specs.declared.entry.Entry.TheVariants as entries
 use Rattle.mip_entries.specs.Completed.{node_id, named}
+use Rattle.mip_entries.specs.Wholes.{IsWhole}
 use Rattle.mip_provenance.specs.declared.mark.Mark.{Mark}
 use Rattle.mip_provenance.specs.declared.mark.Mark.TheVariants.{Origin, Forged}
 use Rattle.mip_provenance.specs.Entries.{mark_entry}
@@ -82,13 +83,13 @@ pub quiet_steps : (s : Setup) (n from : ℕ) (run : Run) (steps : List Step) →
 quiet_steps s n from run steps none = quiet_answers s n from run (answers_of steps) (all_silent steps none)
 
 -- an agent accepts no update of a correspondent
-whole_silent : (answers : List Answer) → AllByRecursion agents.IsWhole answers → list_any is_accepting answers ≡ false
+whole_silent : (answers : List Answer) → AllByRecursion (IsWhole agents.is_own) answers → list_any is_accepting answers ≡ false
 whole_silent [] all = refl
 whole_silent (Send shield packet ∷ answers) all = whole_silent answers all.1
 whole_silent (Note (entries.Accepted node number home binding careof sequence end i j) ∷ answers) all = absurd (let own = all.0 in cc)
 whole_silent (Note entry ∷ answers) all = whole_silent answers all.1
 
-pub quiet_whole : (s : Setup) (n from : ℕ) (run : Run) (answers : List Answer) → AllByRecursion agents.IsWhole answers → IsQuiet s run (answered s n from run answers)
+pub quiet_whole : (s : Setup) (n from : ℕ) (run : Run) (answers : List Answer) → AllByRecursion (IsWhole agents.is_own) answers → IsQuiet s run (answered s n from run answers)
 quiet_whole s n from run answers all = quiet_answers s n from run answers (whole_silent answers all)
 
 -- what a mobile does, where its correspondent part accepts nothing

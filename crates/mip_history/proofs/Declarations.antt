@@ -81,11 +81,13 @@ on_link ds l a e = some_link ds l a (by (is_on_link ds l a) (is_interface_taken 
     by true y e = refl
     by false y e = absurd cc
 
-passed : (full : Bool) (o : Option Reason) → (if full then Some reasons.Limit else o) ≡ None → o ≡ None
+-- behind a test of room
+pub passed : (full : Bool) (o : Option Reason) → (if full then Some reasons.Limit else o) ≡ None → o ≡ None
 passed true o e = absurd cc
 passed false o e = e
 
-abbrev MayStand : List Declaration → Type 0
+-- each stands behind those before it
+abbrev pub MayStand : List Declaration → Type 0
 MayStand all = (before : List Declaration) (d : Declaration) (after : List Declaration) → all ≡ before ++ d ∷ after → undeclared before d ≡ None
 
 module _ (all : List Declaration) (stand : MayStand all) where

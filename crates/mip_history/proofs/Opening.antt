@@ -50,7 +50,7 @@ no_past [] n = refl
 no_past (host ∷ hosts) zero = refl
 no_past (host ∷ hosts) (suc n) = no_past hosts n
 
-no_mobile_past : (hosts : List Host) (n : ℕ) → slice_index_or (map (λ (host : Host). let l : List (Stamped mobiles.Step) = [] in l) hosts) n [] ≡ []
+pub no_mobile_past : (hosts : List Host) (n : ℕ) → slice_index_or (map (λ (host : Host). let l : List (Stamped mobiles.Step) = [] in l) hosts) n [] ≡ []
 no_mobile_past [] n = refl
 no_mobile_past (host ∷ hosts) zero = refl
 no_mobile_past (host ∷ hosts) (suc n) = no_mobile_past hosts n

@@ -10,6 +10,7 @@ use Rattle.mip_entries.specs.declared.answer.Answer.TheVariants.{Send, Note}
 use Rattle.mip_entries.specs.declared.entry.Entry.{Entry}
 use Rattle.mip_entries.specs.declared.entry.Entry.TheVariants as entries
 use Rattle.mip_entries.specs.Reasons.{is_unsent_why, is_dropped_why}
+use Rattle.mip_entries.specs.Wholes.{IsWhole}
 use Rattle.mip_provenance.specs.declared.accepted_update.AcceptedUpdate.{AcceptedUpdate}
 use Rattle.mip_provenance.specs.declared.mark.Mark.{Mark}
 use Rattle.mip_provenance.specs.declared.mark.Mark.TheVariants as marks
@@ -61,12 +62,12 @@ mobile_reason (entries.Dropped node number why) own = own
 mobile_reason _ own = tt
 
 -- what a correspondent and an agent answer
-pub part_reasons : (answers : List Answer) → AllByRecursion parts.IsWhole answers → AllByRecursion HasReasons answers
+pub part_reasons : (answers : List Answer) → AllByRecursion (IsWhole parts.is_own) answers → AllByRecursion HasReasons answers
 part_reasons [] all = tt
 part_reasons (Send shield packet ∷ answers) all = (tt, part_reasons answers all.1)
 part_reasons (Note entry ∷ answers) all = (part_reason entry all.0, part_reasons answers all.1)
 
-pub agent_reasons : (answers : List Answer) → AllByRecursion agents.IsWhole answers → AllByRecursion HasReasons answers
+pub agent_reasons : (answers : List Answer) → AllByRecursion (IsWhole agents.is_own) answers → AllByRecursion HasReasons answers
 agent_reasons [] all = tt
 agent_reasons (Send shield packet ∷ answers) all = (tt, agent_reasons answers all.1)
 agent_reasons (Note entry ∷ answers) all = (agent_reason entry all.0, agent_reasons answers all.1)

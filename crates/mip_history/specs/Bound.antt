@@ -1,8 +1,7 @@
 -- What stands behind a binding: the update that made it, in the life of the node, with the verdict on its bytes.
 -- RFC 6275 sections 9.5.1 and 5.2
-use Rattle.std.specs.Prelude.{◌≡◌, ◌≢◌, ℕ, ◌<◌, List, [], ◌∷◌, ◌++◌, fold, Bool, false, true, ◌==◌, if◌then◌else◌, Option, Some, None, Ok, option_map, is_some, slice_get}
+use Rattle.std.specs.Prelude.{◌≡◌, ◌≢◌, ℕ, ◌<◌, List, [], ◌∷◌, ◌++◌, fold, Bool, false, true, ◌==◌, if◌then◌else◌, Option, Some, Ok, option_map, is_some, slice_get}
 use Rattle.std.specs.List.{list_any}
-use Rattle.mip_words.specs.Last.{or_else}
 use Rattle.mip_words.specs.EachAfter.{EachAfter}
 use Rattle.mip_words.specs.declared.address.Address.{Address}
 use Rattle.mip_ipv6.specs.Packet.{Packet}
@@ -16,6 +15,7 @@ use Rattle.mip_tokens.specs.declared.kbm.Kbm.{Kbm}
 use Rattle.mip_entries.specs.declared.entry.Entry.{Entry}
 use Rattle.mip_entries.specs.declared.entry.Entry.TheVariants as entries
 use Rattle.mip_entries.specs.Completed.{node_id}
+pub use Rattle.mip_provenance.specs.Entries.{packet_told, packet_in}
 use Rattle.mip_reception.specs.declared.registration.Registration.{Registration}
 use Rattle.mip_rules_correspondent.specs.declared.verdict.Verdict.TheVariants.{Accept}
 use Rattle.mip_reception.specs.Registrations.{registration_in}
@@ -55,15 +55,6 @@ held_under_in s past n home number = held_under (accepted_by s.start past n) hom
 -- the sequence that an update of a home must come after
 abbrev pub floor_in : Setup → List Entry → ℕ → ℕ → Option ℕ
 floor_in s past n home = floor (accepted_by s.start past n) home (moment_in s.start past)
-
-abbrev pub packet_told : ℕ → Entry → Option (List ℕ)
-packet_told k (entries.Sent number node shielded packet) = if number == k then Some packet else None
-packet_told k (entries.Injected number outsider link packet) = if number == k then Some packet else None
-packet_told k _ = None
-
--- the bytes of packet k, of its first `sent` or `injected`
-abbrev pub packet_in : List Entry → ℕ → Option (List ℕ)
-packet_in past k = fold (λ o e. or_else o (packet_told k e)) None past
 
 -- node n as a judge at the end of a history: its secrets of this life, the moment, and what it keeps of a home
 abbrev pub judge_in : Setup → List Entry → ℕ → Address → ℕ → ℕ → Bench

@@ -1,19 +1,16 @@
 -- The entries that the declarations of a schedule can have: each name in them is declared, and each reason is one of those that
 -- stand in such an entry.
-use Rattle.std.specs.Prelude.{◌≡◌, ◌⊎◌, ℕ, ◌+◌, ◌≤◌, List, true}
+use Rattle.std.specs.Prelude.{◌≡◌, ◌⊎◌, ℕ, ◌+◌, List, true}
 use Rattle.mip_entries.specs.declared.entry.Entry.{Entry}
 use Rattle.mip_entries.specs.declared.entry.Entry.TheVariants as entries
 use Rattle.mip_entries.specs.Reasons.{is_gone_why, is_unsent_why, is_dropped_why}
+pub use Rattle.mip_entries.specs.Reasons.{IsCause}
 use Rattle.mip_schedule.specs.Lawful.{IsLink, IsNode, IsOutsider, IsLinkIfAny}
 use Rattle.mip_symbols.specs.declared.declaration.Declaration.{Declaration}
 
 -- a node by its number, or an outsider by 32 more than its number
 abbrev pub IsWho : List Declaration → ℕ → Type 0
 IsWho ds who = IsNode ds (record { 0 = who }) ⊎ ((outsider : ℕ) × IsOutsider ds outsider × (who ≡ 32 + outsider))
-
--- one of the three reasons why an acceptance is forged
-abbrev pub IsCause : ℕ → Type 0
-IsCause cause = (1 ≤ cause) × (cause ≤ 3)
 
 abbrev pub IsDeclared : List Declaration → Entry → Type 0
 IsDeclared ds (entries.At a) = Unit {0}

@@ -1,10 +1,9 @@
 -- Questions that are asked of a history.
-use Rattle.std.specs.Prelude.{ℕ, suc, List, fold, Bool, true, false, ◌&&◌, ◌==◌, if◌then◌else◌, Option, Some, None, option_map}
-use Rattle.mip_words.specs.declared.address.Address.{Address}
+use Rattle.std.specs.Prelude.{ℕ, List, Bool, true, false, ◌&&◌, ◌==◌, if◌then◌else◌, Option, Some, None, option_map}
 use Rattle.mip_words.specs.Asked.{asked}
-use Rattle.mip_words.specs.Last.{or_else}
 use Rattle.mip_entries.specs.declared.entry.Entry.{Entry}
-use Rattle.mip_entries.specs.declared.entry.Entry.TheVariants.{At, Moved, Claimed, Released, Listening, Deafened, Restarted}
+use Rattle.mip_entries.specs.declared.entry.Entry.TheVariants.{At, Moved, Claimed, Released, Listening, Deafened}
+pub use Rattle.mip_provenance.specs.Entries.{claims, declared_in, restarts, life_in}
 use Rattle.mip_links.specs.Table.{Asked}
 use Rattle.mip_history.specs.Setup.{Setup}
 
@@ -25,14 +24,6 @@ holder_says address _ = None
 abbrev pub holder_in : List Entry → ℕ → Option ℕ
 holder_in past address = asked (holder_says address) None past
 
-abbrev pub claims : ℕ → Entry → Option Address
-claims by (Claimed who link address) = if by == who then Some address else None
-claims by _ = None
-
--- the address that somebody claimed first
-abbrev pub declared_in : List Entry → ℕ → Option Address
-declared_in past by = fold (λ o e. or_else o (claims by e)) None past
-
 abbrev pub listen_says : ℕ → ℕ → Entry → Option Bool
 listen_says outsider link (Listening o l) = if (outsider == o) && (link == l.0) then Some true else None
 listen_says outsider link (Deafened o l) = if (outsider == o) && (link == l.0) then Some false else None
@@ -41,14 +32,6 @@ listen_says outsider link _ = None
 -- an outsider listens on a link
 abbrev pub hears_in : List Entry → ℕ → ℕ → Bool
 hears_in past outsider link = asked (listen_says outsider link) false past
-
-abbrev pub restarts : ℕ → ℕ → Entry → ℕ
-restarts n count (Restarted node) = if n == node.0 then suc count else count
-restarts n count _ = count
-
--- the life of a node: how often it was restarted
-abbrev pub life_in : List Entry → ℕ → ℕ
-life_in past n = fold (restarts n) 0 past
 
 abbrev pub moved_says : ℕ → Entry → Option (Option ℕ)
 moved_says m (Moved node link) = if m == node.0 then Some (option_map (λ l. l.0) link) else None

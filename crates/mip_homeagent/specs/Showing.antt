@@ -1,14 +1,16 @@
 -- What a transition shows as it goes on: its answers so far, what is known, and what became of claims.
 use Rattle.std.specs.Prelude.{◌≡◌, ℕ, List, [], Option, Bool, Result, OnOk}
 use Rattle.mip_entries.specs.declared.answer.Answer.{Answer}
+use Rattle.mip_entries.specs.Shows.{ShowsBy}
 use Rattle.mip_rules_agent.specs.Known.{Known}
 use Rattle.mip_rules_agent.specs.Claims.{claims_by}
-use Rattle.mip_rules_agent.specs.Transitions.{Transition, ShowsAt}
+use Rattle.mip_rules_agent.specs.Steps.{answer_of}
+use Rattle.mip_rules_agent.specs.Transitions.{Transition}
 use Rattle.mip_homeagent.specs.declared.change.Change.{Change}
 use Rattle.mip_homeagent.specs.Changes.{Claiming, unclaimed, with_change, claims_with}
 
 abbrev pub Shows : (now : ℕ) (known : Known) → Claiming → (answers : List Answer) → Transition → Type 0
-Shows now known claiming answers t = ShowsAt now known answers t × ((claims : ℕ → Bool) → claims_by t.steps claims ≡ claiming claims)
+Shows now known claiming answers t = ShowsBy answer_of now known answers t × ((claims : ℕ → Bool) → claims_by t.steps claims ≡ claiming claims)
 
 -- a rule that changes nothing but the answers
 abbrev pub Goes : {R E : Type 0} → Result R E → (Transition → Transition) → (old new : List Answer) → Type 0

@@ -7,6 +7,7 @@ ghost use Rattle.mip_homeagent.specs.Showing.{Goes};
 ghost use Rattle.mip_homeagent.specs.Endings.{answers_released};
 
 use mip_entries::{Answer, Answers, Entry};
+use mip_reception::{denied, dropped};
 use mip_rules_agent::{Ending, HomeBinding};
 use mip_words::{Address, Bytes, HERE, MYSELF, Memory, Shield, Why};
 use std::alloc::Global;
@@ -23,11 +24,7 @@ pub fn send(answers: &mut Answers, shield: Option<Shield>, packet: Bytes) -> Res
 pub fn drop_packet(answers: &mut Answers, number: u64, why: Why) -> Result<(), Memory>
     ensures { Goes result (noted (Drops number why)) answers.old answers.new }
 {
-    answers.push(Answer::Note(Entry::Dropped {
-        node: MYSELF,
-        number,
-        why,
-    }))?;
+    answers.push(dropped(number, why))?;
     Ok(())
 }
 
@@ -35,11 +32,7 @@ pub fn drop_packet(answers: &mut Answers, number: u64, why: Why) -> Result<(), M
 pub fn note_denial(answers: &mut Answers, number: u64, status: u8) -> Result<(), Memory>
     ensures { Goes result (noted (Denies number status)) answers.old answers.new }
 {
-    answers.push(Answer::Note(Entry::Denied {
-        node: MYSELF,
-        number,
-        status,
-    }))?;
+    answers.push(denied(number, status))?;
     Ok(())
 }
 

@@ -1,23 +1,19 @@
 -- What is read has 1,000 lines at most.
-use Rattle.std.proofs.Common.{◌≡◌, ℕ, ◌≤◌, List, [], ◌∷◌, ◌++◌, length, Bool, true, false, cond, refl, subst, arith, length-append}
-use Rattle.std.specs.Prelude.{Result, Ok, Err, nat_le}
+use Rattle.std.proofs.Common.{◌≡◌, ℕ, ◌≤◌, List, [], ◌∷◌, ◌++◌, length, cond, subst, arith, length-append}
+use Rattle.std.specs.Prelude.{Ok, Err, nat_le}
 use Rattle.std.proofs.lemmas.Bool.{leb-false}
 use Rattle.mip_words.specs.Steps.{◌>>=◌}
 use Rattle.mip_words.proofs.StepLaws.{bind_ok, ok_is}
 use Rattle.mip_lines.specs.Cutting.{rows_of}
-use Rattle.mip_symbols.specs.declared.reason.Reason.{Reason}
 use Rattle.mip_symbols.specs.declared.reason.Reason.TheVariants as reasons
 use Rattle.mip_schedule.specs.Reading.{version_line}
 use Rattle.mip_drafts.specs.Walk.{walk}
 use Rattle.mip_drafts.proofs.WalkLaws.{walk_keeps}
 use Rattle.mip_config.specs.Reading.{port_line}
+use Rattle.mip_config.proofs.LineLaws.{unrefused}
 use Rattle.mip_hub.specs.Rows.{line_fields}
 use Rattle.mip_hub.specs.Reading.{Content, is_told, judged, line_onto, reading}
 use Rattle.mip_hub.specs.declared.hub_line.HubLine.{HubLine}
-
-unrefused : {A : Type 0} (b : Bool) (why : Reason) (r : Result A Reason) (x : A) → cond b (Err why) r ≡ Ok x → (b ≡ false) × (r ≡ Ok x)
-unrefused true why r x e = absurd cc
-unrefused false why r x e = (refl, e)
 
 abbrev AreFew : List HubLine → Type 0
 AreFew lines = length lines ≤ 1000

@@ -6,12 +6,9 @@ use Rattle.mip_symbols.specs.Kinds as kinds
 use Rattle.mip_symbols.specs.declared.reason.Reason.{Reason}
 use Rattle.mip_symbols.specs.declared.reason.Reason.TheVariants as reasons
 use Rattle.mip_config.specs.Rows.{port}
+pub use Rattle.mip_config.specs.Rows.{turn}
 use Rattle.mip_hub.specs.declared.hub_line.HubLine.{HubLine}
 use Rattle.mip_hub.specs.declared.hub_line.HubLine.TheVariants.{Claim, Release, Advertise, Copies}
-
--- turns are counted from 1
-abbrev pub turn : List ℕ → Result ℕ Reason
-turn field = kinds.number 1 1000000 field
 
 abbrev pub yes_or_no : List ℕ → Result Bool Reason
 yes_or_no field =

@@ -57,7 +57,7 @@ use Rattle.mip_rules_mobile.specs.HomeRules.{home_answered}
 use Rattle.mip_rules_mobile.specs.PeerRules.{tells_of_nonces, begins_at, meets, comes_right, test_at, cookie, home_row, careof_row, keeps_home, keeps_careof, takes_home_test, takes_careof_test, acknowledges, binds_from, ends_for, is_granted, rests, takes_peer_ack, acks_trial, acks_row, takes_ack_of, loses, takes_error, renews, takes_refresh}
 use Rattle.mip_rules_mobile.specs.IcmpRules.{agents_named, is_matched, drops_icmp, finds, takes_discovery_reply, is_from_agent, learns, takes_prefix_reply, by_icmp, takes_icmp}
 use Rattle.mip_rules_mobile.specs.ReceivingRules.{acks_by, takes_ack, then_meets, takes_for_part, by_message, by_role, refuses, after_inner_checks, inner_standing, takes_inner, opens_with, opens_from, opens, after_checks, standing_of, receives, takes}
-use Rattle.mip_rules_mobile.specs.RingingRules.{renews_home, ends_home, ends_at, ends_row, rings_home, does_work, rings, rings_on, ticks, ticks_all}
+use Rattle.mip_rules_mobile.specs.RingingRules.{registers_if_away, ends_home, ends_at, ends_row, rings_home, does_work, rings, rings_on, ticks, ticks_all}
 use Rattle.mip_rules_mobile.specs.PartLaws.{is_restart}
 use Rattle.mip_rules_mobile.specs.Answering.{stays_put}
 use Rattle.mip_rules_mobile.specs.Doing.{transmits_from, transmits, solicits_from, solicits, handles}
@@ -331,7 +331,7 @@ module _ (P : Transition → Type 0) (one : (step : Step) (t : Transition) → i
         by AtHome agent = one _ t refl p
 
   -- due work
-  still_renews : (s : Attachment) (t : Transition) → P t → P (renews_home s t)
+  still_renews : (s : Attachment) (t : Transition) → P t → P (registers_if_away s t)
   still_renews Detached t p = p
   still_renews AtHome t p = p
   still_renews (Away careof) t p = still_registers P one notes careof t p

@@ -12,7 +12,6 @@ use Rattle.mip_symbols.specs.Places.{members, AreFew}
 use Rattle.mip_symbols.specs.declared.declaration.Declaration.{Declaration}
 use Rattle.mip_symbols.specs.declared.declaration.Declaration.TheVariants as declare
 use Rattle.mip_symbols.specs.declared.places.Sort.TheVariants as sorts
-use Rattle.mip_symbols.specs.declared.reason.Reason.{Reason}
 use Rattle.mip_symbols.specs.declared.reason.Reason.TheVariants as reasons
 use Rattle.mip_links.specs.Table.{link_from, link_of}
 use Rattle.mip_rules_agent.specs.Rules.{anycast_of}
@@ -23,6 +22,7 @@ use Rattle.mip_schedule.specs.Reading.{reading}
 use Rattle.mip_schedule.proofs.FewLaws.{few_more, none_few}
 use Rattle.mip_schedule.proofs.LawfulLaws.{read_so}
 use Rattle.mip_history.specs.Setup.{Host, links_in, hosts_from, setup_of}
+use Rattle.mip_history.proofs.Declarations.{passed}
 use Rattle.mip_law_delivery.specs.Orderly.{IsOrderly}
 use Rattle.mip_law_delivery.proofs.Reading.{AreDeclared, within_of, serves_mobile}
 use Rattle.mip_law_delivery.proofs.Serving.{unserved}
@@ -53,10 +53,6 @@ link_found (declare.Correspondent name link address room ∷ front) rest n p i i
 link_found (declare.Mobile name link address agent ∷ front) rest n p i is = link_found front rest n p i is
 link_found (declare.Outsider name ∷ front) rest n p i is = link_found front rest n p i is
 link_found (declare.Serve agent mobile ∷ front) rest n p i is = link_found front rest n p i is
-
-passed : (full : Bool) (o : Option Reason) → (if full then Some reasons.Limit else o) ≡ None → o ≡ None
-passed true o e = absurd cc
-passed false o e = e
 
 anycast_interface : (a : ℕ) → interface_of (anycast_of (record { 0 = a })) ≡ 18302628885633695742
 anycast_interface a = omega arith

@@ -20,7 +20,7 @@ use Rattle.mip_rules_mobile.specs.declared.attachment.Attachment.TheVariants.{De
 use Rattle.mip_rules_mobile.specs.Calls as mobiles
 use Rattle.mip_rules_mobile.specs.Known.{Known}
 use Rattle.mip_rules_mobile.specs.Steps.{Step, Called, Notes, Arrives, FindsTaken, Detaches}
-use Rattle.mip_rules_mobile.specs.Questions.{after, known}
+use Rattle.mip_rules_mobile.specs.Questions.{known}
 use Rattle.mip_rules_mobile.specs.Transitions.{Transition, begun, noted}
 use Rattle.mip_rules_mobile.specs.TrialRules.{each_row}
 use Rattle.mip_rules_mobile.specs.MovingRules.{uses_prefix, releases, unbinds, leaves}
@@ -45,7 +45,7 @@ use Rattle.mip_history.proofs.Walking.{walk_run}
 use Rattle.mip_settled.proofs.Answered.{IsQuiet, IsMute, tells, tells_push, tells_same}
 use Rattle.mip_settled.proofs.MobileTransitions.{is_plain, entry_of, says_of, IsRightNote, IsKnown, Tells, arrived_at, staying_tells, restart_tells, using_tells, attaching_tells}
 use Rattle.mip_settled.proofs.Questions.{IsHome, present_known}
-use Rattle.mip_settled.proofs.Roaming.{IsNode, IsRoaming, acts_mute, others_acts, home, transition, then_, middle, known_then, acts_as, roaming_keeps, roaming_nothing, no_past}
+use Rattle.mip_settled.proofs.Roaming.{IsNode, IsRoaming, acts_mute, others_acts, home, transition, then_, middle, known_then, acts_as, apart_standing, roaming_keeps, roaming_nothing, no_past}
 use Rattle.mip_law_delivery.specs.Quiet.{Circle, has_node, is_loud}
 use Rattle.mip_law_delivery.proofs.Silence.{is_loud_or_taken}
 
@@ -86,11 +86,7 @@ found_known n own =
     let p = present_known n own in
     record { quiet = found_quiet n; own = found_own n; kept = p.kept; row = p.row; claims = p.claims; arrives = p.arrives; reborn = p.reborn }
 
--- as it finds an address taken, and as it leaves its link, it uses none
-apart_standing : (own : Address) (k : Known) (at : ℕ) (address : Address) (holder : ℕ) → address_of own (let x : Known = after k (record { at = at; step = FindsTaken address holder }) in x.standing) ≡ None
-unfolding after
-apart_standing own k at address holder = refl
-
+-- as it leaves its link, it uses no address
 left_standing : (k : Known) (now : ℕ) (of_home : Claim) → (transition_of k now (mobiles.Leave of_home)).known.standing ≡ Detached
 unfolding does leaves
 left_standing k now of_home =

@@ -16,7 +16,7 @@ use Rattle.mip_history.specs.Runs.{Run}
 use Rattle.mip_history.specs.Knowing.{secrets_in}
 use Rattle.mip_history.specs.KnowingLaws.{part_in}
 use Rattle.mip_history.specs.Permitted.{opening_claims, opened, happens, permitted}
-use Rattle.mip_history.proofs.Opening.{claims_none}
+use Rattle.mip_history.proofs.Opening.{no_mobile_past, claims_none}
 use Rattle.mip_law_origin.specs.MarkedLaws.{EachIsFollowed}
 use Rattle.mip_law_origin.specs.OwnHistories.{life_of}
 use Rattle.mip_law_origin.specs.OwnHistoriesLaws.{IsOwnEntry, IsPlainEvent, ArePlain}
@@ -36,11 +36,6 @@ none_given front m (h ∷ hosts) zero = tt
 none_given front m (h ∷ hosts) (suc n) = none_given front m hosts n
 
 -- the secrets of the first lives, which the opening claims leave as they are
-no_mobile_past : (hosts : List Host) (n : ℕ) → slice_index_or (map (λ (host : Host). let l : List (Stamped mobiles.Step) = [] in l) hosts) n [] ≡ []
-no_mobile_past [] n = refl
-no_mobile_past (host ∷ hosts) zero = refl
-no_mobile_past (host ∷ hosts) (suc n) = no_mobile_past hosts n
-
 first_secrets : (s : Setup) → HaveSecrets s (opened s)
 unfolding part_life
 first_secrets s = (

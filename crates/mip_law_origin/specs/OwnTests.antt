@@ -1,15 +1,13 @@
 -- The tests that a node sends are its own, under its newest nonce. RFC 6275 sections 5.2.5, 9.4.3 and 9.4.4
-use Rattle.std.specs.Prelude.{◌≡◌, ℕ, false}
+use Rattle.std.specs.Prelude.{◌≡◌, ℕ}
 use Rattle.mip_nonce.specs.Secrets.{Life, kcn_of, nonce_of}
 use Rattle.mip_nonce.specs.Window.{current_of, index_of}
 use Rattle.mip_tokens.specs.Token.{token_of}
-use Rattle.mip_ipv6.specs.Packet.{names_no_body}
 use Rattle.mip_packets.specs.Says.{Carried, carried}
 use Rattle.mip_packets.specs.Says.Carried.{Test}
 use Rattle.mip_rules_correspondent.specs.declared.identity.Identity.{Identity}
-use Rattle.mip_rules_correspondent.specs.Calls as calls
-use Rattle.mip_rules_correspondent.specs.Calls.{Call}
 use Rattle.mip_rules_correspondent.specs.Steps.{Step, Sends}
+pub use Rattle.mip_rules_correspondent.specs.Answering.{SendsPlainData}
 
 -- a test has the index of the newest nonce of this life, and the token for the address that it goes to
 abbrev pub IsOwnTest : Life → ℕ → Carried → Type 0
@@ -21,8 +19,3 @@ IsOwnTest life now _ = Unit {0}
 abbrev pub SendsOwnTests : Identity → ℕ → Step → Type 0
 SendsOwnTests me now (Sends packet) = IsOwnTest me.secrets now (carried packet)
 SendsOwnTests me now _ = Unit {0}
-
--- what is sent as data is no packet, no mobility message and no extension header
-abbrev pub SendsPlainData : Call → Type 0
-SendsPlainData (calls.Send to proto payload) = (names_no_body proto ≡ false) × (proto ≡ 135 → ⊥) × (proto ≡ 41 → ⊥)
-SendsPlainData _ = Unit {0}

@@ -38,12 +38,10 @@ use Rattle.mip_rules_mobile.specs.Refusing.{is_refusal}
 use Rattle.mip_rules_mobile.specs.TakenLaws.{AreRefusingUnless}
 use Rattle.mip_rules_mobile.proofs.Checks.{checked-in, opened-reads}
 use Rattle.mip_rules_mobile.proofs.OutWalks.{every-replies}
+use Rattle.mip_rules_mobile.proofs.Taken.{HasRefused}
 use Rattle.mip_law_security.specs.Naming.{SaysNoUpdate}
 
 -- something was refused, and stays so
-abbrev HasRefused : Transition → Type 0
-HasRefused t = list_any is_refusal t.steps ≡ true
-
 or_last : (b : Bool) → (b || true) ≡ true
 or_last true = refl
 or_last false = refl

@@ -12,10 +12,9 @@ use Rattle.mip_rules_mobile.specs.Calls.{Call, Take}
 use Rattle.mip_rules_mobile.specs.Steps.{Step, Notes, answer_of, answers_of}
 use Rattle.mip_rules_mobile.specs.Known.{Known}
 use Rattle.mip_rules_mobile.specs.Doing.{transition_of}
-use Rattle.mip_rules_mobile.specs.Refusing.{is_refusal, tells_of_refusal, tables_of}
+use Rattle.mip_rules_mobile.specs.Refusing.{is_refusal, tells_of_refusal, refuses, tables_of}
 use Rattle.mip_rules_mobile.proofs.Refusals.{refused-keeps}
 use Rattle.mip_transmission.specs.Putting.{after_put, Puts, PutsAll}
-use Rattle.mip_mobile.specs.Handling.{refuses}
 
 -- what the wire makes of a packet refuses nothing
 refuses-put : (put : Put) (shield : Option Shield) (packet : List ℕ) → refuses (after_put put shield packet) ≡ refuses (Send shield packet)

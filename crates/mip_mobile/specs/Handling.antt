@@ -1,5 +1,5 @@
 -- What a call of a station answers, and what it leaves.
-use Rattle.std.specs.Prelude.{◌≡◌, ◌≤◌, ℕ, Bool, true, false, max, List, ◌++◌, take, length, map, Option, option_map, Err}
+use Rattle.std.specs.Prelude.{◌≡◌, ◌≤◌, ℕ, Bool, true, max, List, ◌++◌, take, length, map, Option, option_map, Err}
 use Rattle.std.specs.List.{list_any}
 use Rattle.mip_words.specs.declared.address.Address.{Address}
 use Rattle.mip_words.specs.declared.shield.Shield.{Shield}
@@ -8,13 +8,12 @@ use Rattle.mip_outside.specs.declared.put.Put.{Put}
 use Rattle.mip_outside.specs.declared.put_fault.PutFault.{PutFault}
 use Rattle.mip_entries.specs.Stamped.{Stamped}
 use Rattle.mip_entries.specs.declared.answer.Answer.{Answer}
-use Rattle.mip_entries.specs.declared.answer.Answer.TheVariants.{Send, Note}
 use Rattle.mip_rules_mobile.specs.declared.attachment.Attachment.TheVariants.{Away}
 use Rattle.mip_rules_mobile.specs.Answering.{IsElsewhere, AreFrom, stays_put}
 use Rattle.mip_rules_mobile.specs.Calls.{Call, Take}
 use Rattle.mip_rules_mobile.specs.Steps.{Step, answers_of}
 use Rattle.mip_rules_mobile.specs.Known.{Known}
-use Rattle.mip_rules_mobile.specs.Refusing.{tells_of_refusal, tables_of}
+use Rattle.mip_rules_mobile.specs.Refusing.{refuses, tables_of}
 use Rattle.mip_rules_mobile.specs.Transitions.{Stands, with_transition}
 use Rattle.mip_rules_mobile.specs.Doing.{transition_of}
 use Rattle.mip_mobile_calls.specs.Seen.{ContextSeen}
@@ -23,11 +22,6 @@ use Rattle.mip_transmission.specs.Putting.{PutsAll, Told, Answered, sends_of, pu
 -- the moment of a call: what the clock says, or the moment of the last call where that is later
 abbrev pub moment_of : (clock last : ℕ) → ℕ
 moment_of clock last = max clock last
-
--- a packet was dropped, or an update denied
-abbrev pub refuses : Answer → Bool
-refuses (Send shield packet) = false
-refuses (Note entry) = tells_of_refusal entry
 
 -- a station that knew this was called at a moment: its answers are those of the definition's transition, as its wire took them;
 -- it stands for each past for which it stood before, with the transition behind it; where it is away, and stays, each packet leaves

@@ -3,7 +3,7 @@
 ghost use Rattle.std.specs.Prelude.{◌≡◌, OnOk};
 ghost use Rattle.mip_outside.specs.Places.{is_held};
 ghost use Rattle.mip_rules_mobile.specs.declared.attachment.Attachment.TheVariants.{AtHome};
-ghost use Rattle.mip_rules_mobile.specs.MovingRules.{releases, unbinds_with, unbinds, leaves, uses_prefix, leaves_first, attaches, registers_if_away, restarts};
+ghost use Rattle.mip_rules_mobile.specs.MovingRules.{releases, unbinds_with, unbinds, leaves, uses_prefix, leaves_first, attaches, restarts};
 ghost use Rattle.mip_rules_mobile.specs.TrialRules.{each_row};
 ghost use Rattle.mip_rules_mobile.specs.HomeQuestions.{home_of};
 ghost use Rattle.mip_rules_mobile.specs.Steps.{Releases};
@@ -11,7 +11,7 @@ ghost use Rattle.mip_rules_mobile.specs.Transitions.{Transition, noted};
 ghost use Rattle.mip_mobile_registration.specs.Seen.{Shows};
 
 use mip_mobile_registration::call_context::CallContext;
-use mip_mobile_registration::{arrive, register};
+use mip_mobile_registration::{arrive, register_if_away};
 use mip_nonce::Secrets;
 use mip_outside::Claim;
 use mip_rules_mobile::Attachment;
@@ -141,21 +141,6 @@ pub fn attach(
     }
     leave_first(context, standing, of_home)?;
     arrive(alloc, context, prefix, of_address)
-}
-
-/// Away, the new life begins with a registration.
-fn register_if_away(
-    alloc: Global,
-    context: &mut CallContext,
-    standing: Attachment,
-) -> Result<(), Memory>
-    ensures { (t : Transition) → Shows context.old t → OnOk result (Shows context.new (registers_if_away standing t)) }
-{
-    match standing {
-        Attachment::Detached => Ok(()),
-        Attachment::AtHome => Ok(()),
-        Attachment::Away { careof } => register(alloc, context, careof),
-    }
 }
 
 /// The mobile loses all that it keeps, and goes on with these secrets.

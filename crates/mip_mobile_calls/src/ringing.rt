@@ -7,7 +7,7 @@ ghost use Rattle.mip_rules_mobile.specs.Timing.{doubled};
 ghost use Rattle.mip_rules_mobile.specs.Trials.{is_bound, Rest};
 ghost use Rattle.mip_rules_mobile.specs.RowQuestions.{trial_of};
 ghost use Rattle.mip_rules_mobile.specs.HomeRules.{resends_home};
-ghost use Rattle.mip_rules_mobile.specs.RingingRules.{renews_home, ends_home, rests_if_bound, ends_at, ends_row, rings_home, does_work, rings, ticks, ticks_all};
+ghost use Rattle.mip_rules_mobile.specs.RingingRules.{registers_if_away, ends_home, rests_if_bound, ends_at, ends_row, rings_home, does_work, rings, ticks, ticks_all};
 ghost use Rattle.mip_rules_mobile.specs.TimerQuestions.{moment};
 ghost use Rattle.mip_mobile_calls.specs.Rounds.{rings_once};
 ghost use Rattle.mip_rules_mobile.specs.Steps.{Tries};
@@ -16,7 +16,7 @@ ghost use Rattle.mip_mobile_registration.specs.Seen.{Shows};
 
 use mip_bulist::{Any, HomeTimer, Work};
 use mip_mobile_registration::call_context::{CallContext, doubled};
-use mip_mobile_registration::{end_home, renew_home, resend_home, seek_again};
+use mip_mobile_registration::{end_home, register_if_away, resend_home, seek_again};
 use mip_mobile_routability::{resend_row, start};
 use mip_words::{Address, Memory};
 use std::alloc::Global;
@@ -79,10 +79,10 @@ fn resend(alloc: Global, context: &mut CallContext) -> Result<(), Memory>
 
 /// The registration is renewed, before it ends.
 fn renew(alloc: Global, context: &mut CallContext) -> Result<(), Memory>
-    ensures { (t : Transition) → Shows context.old t → OnOk result (Shows context.new (renews_home t.known.standing t)) }
+    ensures { (t : Transition) → Shows context.old t → OnOk result (Shows context.new (registers_if_away t.known.standing t)) }
 {
     let standing = context.standing();
-    renew_home(alloc, context, standing)
+    register_if_away(alloc, context, standing)
 }
 
 /// The registration ends.

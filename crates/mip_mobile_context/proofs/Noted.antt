@@ -1,20 +1,21 @@
 -- How what a context shows goes on with a step.
 use Rattle.std.proofs.Common.{◌≡◌, ℕ, List, ◌++◌, refl, sym, subst}
 use Rattle.mip_entries.specs.declared.answer.Answer.{Answer}
+use Rattle.mip_entries.specs.Shows.{ShowsBy}
 use Rattle.mip_entries.proofs.ShowLaws.{shows-noted, shows-known as known_of, shows-now as now_of}
 use Rattle.mip_rules_mobile.specs.Sendings.{Sending, FromHome, ByTunnel, AsksCareof, SendsData, Discovers}
 use Rattle.mip_rules_mobile.specs.Steps.{Step, Sends, answer_of}
 use Rattle.mip_rules_mobile.specs.Known.{Known}
 use Rattle.mip_rules_mobile.specs.Questions.{after}
-use Rattle.mip_rules_mobile.specs.Transitions.{Transition, noted, ShowsAt}
+use Rattle.mip_rules_mobile.specs.Transitions.{Transition, noted}
 use Rattle.mip_mobile_context.specs.Seen.{ContextSeen, Shows, IsNeutral}
 
 -- a step whose answer was appended, and that left this known
 pub shown : (step : Step) (old : ContextSeen) (now : ℕ) (k l : Known) (answers more : List Answer) (t : Transition) → record { moment = now; known = k; answers = answers } ≡ old
-    → more ≡ answers ++ answer_of step → l ≡ after k (record { at = now; step = step }) → Shows old t → ShowsAt now l more (noted step t)
+    → more ≡ answers ++ answer_of step → l ≡ after k (record { at = now; step = step }) → Shows old t → ShowsBy answer_of now l more (noted step t)
 shown step old now k l answers more t is appended left shows =
-    subst (λ (m : List Answer). ShowsAt now l m (noted step t)) (sym appended)
-    (subst (λ (m : Known). ShowsAt now m (answers ++ answer_of step) (noted step t)) (sym left)
+    subst (λ (m : List Answer). ShowsBy answer_of now l m (noted step t)) (sym appended)
+    (subst (λ (m : Known). ShowsBy answer_of now m (answers ++ answer_of step) (noted step t)) (sym left)
     (shows-noted answer_of after step now k answers t (subst (λ (d : ContextSeen). Shows d t) (sym is) shows)))
 
 -- a neutral sending changes nothing

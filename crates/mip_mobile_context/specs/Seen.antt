@@ -3,10 +3,12 @@ use Rattle.std.specs.Prelude.{◌≡◌, ℕ, ◌^◌, ◌<◌, ◌≤◌, List,
 use Rattle.mip_words.specs.Addresses.{is_routable}
 use Rattle.mip_words.specs.declared.address.Address.{Address}
 use Rattle.mip_entries.specs.declared.answer.Answer.{Answer}
+use Rattle.mip_entries.specs.Shows.{ShowsBy}
 use Rattle.mip_rules_mobile.specs.Sendings.{Sending, FromHome, ByTunnel, AsksCareof, SendsData, Discovers}
 use Rattle.mip_rules_mobile.specs.Known.{Known}
 use Rattle.mip_rules_mobile.specs.HomeQuestions.{home_of}
-use Rattle.mip_rules_mobile.specs.Transitions.{Transition, ShowsAt}
+use Rattle.mip_rules_mobile.specs.Steps.{answer_of}
+use Rattle.mip_rules_mobile.specs.Transitions.{Transition}
 use Rattle.mip_mobile_state.specs.Mine.{AreMine}
 use Rattle.mip_mobile_state.specs.Early.{AreEarly}
 
@@ -29,7 +31,7 @@ pub record IsSound (d : ContextSeen) (address : Address) : Type 0 where
 
 -- the context shows a transition
 abbrev pub Shows : ContextSeen → Transition → Type 0
-Shows d t = ShowsAt d.moment d.known d.answers t
+Shows d t = ShowsBy answer_of d.moment d.known d.answers t
 
 -- a packet whose sending changes nothing of what is known
 abbrev pub IsNeutral : Sending → Type 0

@@ -3,7 +3,7 @@
 ghost use Rattle.std.specs.Prelude.{◌≡◌, ◌<◌, ◌+◌, ◌^◌, OnOk, Some, IfSome, if◌then◌else◌};
 ghost use Rattle.mip_rules_mobile.specs.declared.attachment.Attachment.TheVariants.{AtHome, Away};
 ghost use Rattle.mip_rules_mobile.specs.Transitions.{Transition};
-ghost use Rattle.mip_rules_mobile.specs.HomeRules.{seeks, seeks_again, seeks_again_at, seeks_again_from, registers_with, deregisters_with, deregisters_at, wait_behind, registers, resends_as, resends_home, is_behind, turns_to, is_refused};
+ghost use Rattle.mip_rules_mobile.specs.HomeRules.{seeks, seeks_again, seeks_again_at, seeks_again_from, registers_with, deregisters_with, deregisters_at, wait_behind, registers, registers_if_away, resends_as, resends_home, is_behind, turns_to, is_refused};
 ghost use Rattle.mip_rules_mobile.specs.HomeQuestions.{agent_of};
 ghost use Rattle.mip_rules_mobile.specs.MovingRules.{settles};
 ghost use Rattle.mip_mobile_context.specs.Seen.{Shows};
@@ -99,6 +99,21 @@ pub fn register(alloc: Global, context: &mut CallContext, careof: Address) -> Re
     match context.target() {
         Some(agent) => register_with(alloc, context, careof, agent, wait),
         None => seek(alloc, context, careof),
+    }
+}
+
+/// Away, the home address is registered: as a new life begins, and before a registration ends.
+pub fn register_if_away(
+    alloc: Global,
+    context: &mut CallContext,
+    standing: Attachment,
+) -> Result<(), Memory>
+    ensures { (t : Transition) → Shows context.old t → OnOk result (Shows context.new (registers_if_away standing t)) }
+{
+    match standing {
+        Attachment::Detached => Ok(()),
+        Attachment::AtHome => Ok(()),
+        Attachment::Away { careof } => register(alloc, context, careof),
     }
 }
 

@@ -8,7 +8,7 @@ mod packets;
 mod ringing;
 
 pub use asking::{solicit, take_prefix_reply};
-pub use home::{catch_up, register, resend_home, seek_again, turn_away};
+pub use home::{catch_up, register, register_if_away, resend_home, seek_again, turn_away};
 pub use mip_mobile_context as call_context;
 pub use moving::{address_under, arrive};
-pub use ringing::{end_home, renew_home};
+pub use ringing::end_home;

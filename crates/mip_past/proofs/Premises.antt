@@ -27,7 +27,7 @@ use Rattle.mip_schedule.specs.declared.event.Event.{Event}
 use Rattle.mip_schedule.specs.declared.event.Event.TheVariants as events
 use Rattle.mip_history.specs.Setup.{Host, hosts_from, setup_of}
 use Rattle.mip_history.specs.Passing.{waited_by}
-use Rattle.mip_history.proofs.Declarations.{hosts_count}
+use Rattle.mip_history.proofs.Declarations.{passed, MayStand, hosts_count}
 use Rattle.mip_past.specs.HearingLaws.{AreApart}
 use Rattle.mip_past.specs.MeetingLaws.{MeetsPremises}
 use Rattle.mip_past.proofs.PlansKept.{wait_same, now_is}
@@ -44,10 +44,6 @@ own_place before l a e =
     let free : is_interface_taken before a ≡ false = free_of (is_interface_taken before a) (is_on_link before l a) e in
     (or_parts (interface_of a.0 == 0xfdff_ffff_ffff_fffe) (list_any (has_interface (interface_of a.0)) before) free).1
 
-passed : (full : Bool) (o : Option Reason) → (if full then Some reasons.Limit else o) ≡ None → o ≡ None
-passed true o e = absurd cc
-passed false o e = e
-
 clash : {Q : Type 0} → true ≡ false → Q
 clash e = absurd cc
 
@@ -62,9 +58,6 @@ correspondent_place front name l a room e = passed (is_full 32 (members sorts.No
 mobile_place : (front : List Declaration) (name : Name) (l : LinkId) (a : Address) (agent : Option NodeId) → undeclared front (declare.Mobile name l a agent) ≡ None → misplaced front l a ≡ None
 unfolding undeclared
 mobile_place front name l a agent e = passed (has_no_room front) (misplaced front l a) e
-
-abbrev MayStand : List Declaration → Type 0
-MayStand all = (before : List Declaration) (d : Declaration) (after : List Declaration) → all ≡ before ++ d ∷ after → undeclared before d ≡ None
 
 module _ (all : List Declaration) (stand : MayStand all) where
   -- a node stands behind others with another address

@@ -1,5 +1,5 @@
 -- What every node checks of a packet before its role looks at it. RFC 6275 sections 6.1.3, 6.4, 9.2, 9.3.1 and 9.3.3
-use Rattle.std.specs.Prelude.{ℕ, ◌+◌, Bool, true, false, not, ◌&&◌, ◌||◌, ◌==◌, if◌then◌else◌, Option, Some, None, is_some, unwrap_or, Result, Ok, Err}
+use Rattle.std.specs.Prelude.{ℕ, ◌+◌, ◌-◌, List, length, Bool, true, false, not, ◌&&◌, ◌||◌, ◌==◌, if◌then◌else◌, Option, Some, None, is_some, unwrap_or, Result, Ok, Err}
 use Rattle.mip_words.specs.Protocols.{mobility_header}
 use Rattle.mip_words.specs.declared.address.Address.{Address}
 use Rattle.mip_words.specs.declared.why.Why.{Why}
@@ -22,6 +22,10 @@ silent why = record { why = why; reply = Nothing }
 
 abbrev pub nobody : Address
 nobody = record { 0 = 0 }
+
+-- the place of a packet's body in its bytes
+abbrev pub place_in : List ℕ → Packet → ℕ
+place_in bytes p = length bytes - length p.body
 
 -- what goes back for a message that cannot be read, which begins at a place of the packet: a Binding Error with
 -- status 2 for an unknown type, a Parameter Problem for a wrong Payload Proto or Header Len. RFC 6275 section 9.2

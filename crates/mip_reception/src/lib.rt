@@ -10,6 +10,7 @@ mod asks;
 mod checking;
 mod laws;
 mod refusal;
+mod refusing;
 mod registration;
 mod reply;
 mod replying;
@@ -25,6 +26,7 @@ pub use laws::{
     unheld_homes_bring_updates_alone,
 };
 pub use refusal::Refusal;
+pub use refusing::{denied, dropped};
 pub use registration::Registration;
 pub use reply::Reply;
 pub use replying::write_reply;

@@ -8,6 +8,7 @@ use Rattle.mip_entries.specs.declared.answer.Answer.{Answer}
 use Rattle.mip_entries.specs.declared.answer.Answer.TheVariants.{Send, Note}
 use Rattle.mip_entries.specs.declared.entry.Entry.{Entry}
 use Rattle.mip_entries.specs.declared.entry.Entry.TheVariants.{Sent, Injected, Heard, Handed}
+use Rattle.mip_entries.specs.Wholes as wholes
 use Rattle.mip_outside.specs.Places.{Around}
 use Rattle.mip_rules_correspondent.specs.Rules.{is_data}
 use Rattle.mip_rules_correspondent.specs.Steps as correspondent_steps
@@ -66,11 +67,11 @@ apart-mobiles (Heard number outsider) own = absurd cc
 apart-mobiles (Handed number node) own = absurd cc
 apart-mobiles _ own = refl
 
-of-correspondent : (a : Answer) → correspondent_wholes.IsWhole a → IsWhole a
+of-correspondent : (a : Answer) → wholes.IsWhole correspondent_wholes.is_own a → IsWhole a
 of-correspondent (Send shield packet) whole = whole
 of-correspondent (Note entry) whole = apart-correspondents entry whole
 
-of-agent : (a : Answer) → agent_wholes.IsWhole a → IsWhole a
+of-agent : (a : Answer) → wholes.IsWhole agent_wholes.is_own a → IsWhole a
 of-agent (Send shield packet) whole = whole
 of-agent (Note entry) whole = apart-agents entry whole
 
@@ -128,10 +129,10 @@ can_ask (ask.Restart secrets) can = tt
 pub role_whole : (around : Around) (role : Role) (now : ℕ) (call : Call) → CanAsk call → AllByRecursion IsWhole (answers_to around role now call)
 role_whole around (Correspondent c) now call can =
     idle-or (λ x. correspondent_steps.answers_of (correspondents.transition_at c now x).steps) (for_correspondent call) (λ _. Unit {0}) (some (for_correspondent call))
-    (λ x _. weaker correspondent_wholes.IsWhole of-correspondent (correspondent_steps.answers_of (correspondents.transition_at c now x).steps) (correspondent_answers.call-whole c.identity c.known now x))
+    (λ x _. weaker (wholes.IsWhole correspondent_wholes.is_own) of-correspondent (correspondent_steps.answers_of (correspondents.transition_at c now x).steps) (correspondent_answers.call-whole c.identity c.known now x))
 role_whole around (Agent a) now call can =
     idle-or (λ x. agent_steps.answers_of (agents.transition_at a now x).steps) (for_agent around call) (λ _. Unit {0}) (some (for_agent around call))
-    (λ x _. weaker agent_wholes.IsWhole of-agent (agent_steps.answers_of (agents.transition_at a now x).steps) (agent_answers.call-whole a.identity a.known now x))
+    (λ x _. weaker (wholes.IsWhole agent_wholes.is_own) of-agent (agent_steps.answers_of (agents.transition_at a now x).steps) (agent_answers.call-whole a.identity a.known now x))
 role_whole around (Mobile k) now call can =
     idle-or (λ x. mobile_steps.answers_of (transition_of k now x).steps) (for_mobile around (home_of k) call) CanBeAsked (can-mobile around (home_of k) call can)
     (λ x can. each now k (transition_of k now x).steps (mobile_wholes.call-whole k now x can))

@@ -1,12 +1,13 @@
 -- The values that a field of each kind can have: each name is declared, each number within its range, and each reason
 -- one of those that may stand there.
-use Rattle.std.specs.Prelude.{◌≡◌, ◌⊎◌, ℕ, ◌+◌, ◌<◌, ◌≤◌, ◌^◌, List, [], ◌∷◌, length, Some}
+use Rattle.std.specs.Prelude.{◌≡◌, ◌⊎◌, ℕ, ◌+◌, ◌<◌, ◌^◌, List, [], ◌∷◌, length, Some}
 use Rattle.mip_words.specs.Numbers.{IsBytes}
 use Rattle.mip_symbols.specs.Places.{members}
 use Rattle.mip_symbols.specs.declared.declaration.Declaration.{Declaration}
 use Rattle.mip_symbols.specs.declared.places.Sort.TheVariants as sorts
 pub use Rattle.mip_schedule.specs.Lawful.{IsNode, IsLink, IsOutsider}
 pub use Rattle.mip_entries.specs.Widths.{IsNumber, IsMoment, IsAddress, IsToken, IfPresent}
+pub use Rattle.mip_entries.specs.Reasons.{IsCause}
 use Rattle.mip_rows.specs.Texts.{row_texts}
 use Rattle.mip_rows.specs.Whys.{gone_whys, unsent_whys, dropped_whys, IsAmong}
 use Rattle.mip_rows.specs.declared.field_kind.Kind.{Kind}
@@ -24,10 +25,6 @@ AreBytes bytes = (length bytes < 2 ^ 32) × IsBytes bytes
 -- a node by its number, or an outsider by 32 more than its number
 abbrev pub IsWho : List Declaration → ℕ → Type 0
 IsWho ds who = (who < length (members sorts.Node ds)) ⊎ ((outsider : ℕ) × IsOutsider ds outsider × (who ≡ 32 + outsider))
-
--- one of the three reasons why an acceptance is forged
-abbrev pub IsCause : ℕ → Type 0
-IsCause cause = (1 ≤ cause) × (cause ≤ 3)
 
 -- a value of this kind
 abbrev pub IsOfKind : List Declaration → Kind → Value → Type 0

@@ -1,5 +1,5 @@
 -- What a home agent does about a packet: one rule a paragraph. RFC 6275 section 10
-use Rattle.std.specs.Prelude.{ℕ, ◌-◌, List, length, Bool, true, false, not, ◌&&◌, ◌||◌, ◌==◌, nat_lt, if◌then◌else◌, Option, Some, None, Result, Ok, Err}
+use Rattle.std.specs.Prelude.{ℕ, List, length, Bool, true, false, not, ◌&&◌, ◌||◌, ◌==◌, nat_lt, if◌then◌else◌, Option, Some, None, Result, Ok, Err}
 use Rattle.std.specs.Option.{option_map_or}
 use Rattle.mip_words.specs.Protocols.{ipv6, icmpv6, mobility_header}
 use Rattle.mip_words.specs.Addresses.{prefix_of, joined_address}
@@ -24,6 +24,7 @@ use Rattle.mip_reception.specs.declared.refusal.Refusal.{Refusal}
 use Rattle.mip_reception.specs.declared.address_match.AddressMatch.{AddressMatch}
 use Rattle.mip_reception.specs.Words.{packet_why}
 use Rattle.mip_reception.specs.Checks.{checked}
+pub use Rattle.mip_reception.specs.Checks.{place_in}
 use Rattle.mip_reception.specs.Replies.{reply_packet}
 use Rattle.mip_reception.specs.declared.registration.Registration.{Registration}
 use Rattle.mip_reception.specs.Registrations.{registration, home_of, deletes}
@@ -194,10 +195,6 @@ standing_of me k now head = record {
 abbrev pub after_checks : Handing → Packet → Result (Option Said) Refusal → Transition → Transition
 after_checks h p (Err refusal) t = refuses h p.head.source refusal t
 after_checks h p (Ok message) t = by_role h p message t
-
--- the place of a packet's body in its bytes
-abbrev pub place_in : List ℕ → Packet → ℕ
-place_in bytes p = length bytes - length p.body
 
 -- what is sent to a registered home is caught before all checks
 abbrev pub by_destination : Handing → Packet → Option Address → Transition → Transition

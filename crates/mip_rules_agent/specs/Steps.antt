@@ -1,7 +1,6 @@
 -- The steps of a home agent: what it was called for, and what it does about it.
 use Rattle.std.specs.Prelude.{ℕ, List, [], ◌∷◌, Option, Bool, true, false}
 use Rattle.mip_words.specs.declared.address.Address.{Address}
-use Rattle.mip_words.specs.declared.ids.NodeId.{NodeId}
 use Rattle.mip_words.specs.declared.ids.LinkId.{LinkId}
 use Rattle.mip_words.specs.declared.shield.Shield.{Shield}
 use Rattle.mip_words.specs.declared.why.Why.{Why}
@@ -9,6 +8,7 @@ use Rattle.mip_entries.specs.declared.answer.Answer.{Answer}
 use Rattle.mip_entries.specs.declared.answer.Answer.TheVariants.{Send, Note}
 use Rattle.mip_entries.specs.declared.entry.Entry.TheVariants as entries
 use Rattle.mip_entries.specs.Shows.{answers_by}
+pub use Rattle.mip_entries.specs.Completed.{myself}
 use Rattle.mip_rules_agent.specs.declared.home_binding.HomeBinding.{HomeBinding}
 use Rattle.mip_rules_agent.specs.Calls.{Call}
 
@@ -30,10 +30,7 @@ pub data Step : Type 0 where
   -- the ends that were due are done; leaves no entry
   Rang : Step
 
--- a role writes 0 for its own number, and for a link
-abbrev pub myself : NodeId
-myself = record { 0 = 0 }
-
+-- a role writes 0 for a link
 abbrev pub here : LinkId
 here = record { 0 = 0 }
 

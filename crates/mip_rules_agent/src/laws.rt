@@ -32,7 +32,7 @@ ghost use Rattle.mip_rules_agent.specs.Verdicts.{verdict};
 ghost use Rattle.mip_rules_agent.specs.Soundness.{IsSound, IsBehind};
 ghost use Rattle.mip_rules_agent.specs.Sendings.{SendsOwn};
 ghost use Rattle.mip_rules_agent.specs.Sayings.{SaysNoOther};
-ghost use Rattle.mip_rules_agent.specs.Wholes.{IsWhole};
+ghost use Rattle.mip_rules_agent.specs.Wholes.{IsWhole, is_own};
 ghost use Rattle.mip_rules_agent.specs.Shielding.{ShieldNoUpdate};
 ghost use Rattle.mip_rules_agent.specs.Refusing.{is_refusal, is_claim};
 ghost use Rattle.mip_rules_agent.specs.RefusingLaws.{released};
@@ -111,7 +111,7 @@ pub fn agents_are_as_heard()
 
 /// Whatever a call gives out is whole.
 pub fn answers_are_whole()
-    ensures { (me : Identity) (k : Known) (now : ℕ) (c : Call) → AllByRecursion IsWhole (answers_of (transition_of me k now c).steps) }
+    ensures { (me : Identity) (k : Known) (now : ℕ) (c : Call) → AllByRecursion (IsWhole is_own) (answers_of (transition_of me k now c).steps) }
 {}
 
 /// Whatever a call sends is the packet that it hands over, in a tunnel or out of one, or a message of the agent's own: an

@@ -11,12 +11,12 @@ use Rattle.mip_rules_correspondent.specs.Questions.{after}
 use Rattle.mip_rules_correspondent.specs.Transitions.{Transition, begun, noted}
 use Rattle.mip_rules_correspondent.specs.Doing.{transition_of}
 use Rattle.mip_rules_correspondent.specs.Sendings.{SendsOwn}
-use Rattle.mip_rules_correspondent.specs.Wholes.{IsWhole}
+use Rattle.mip_rules_correspondent.specs.Wholes.{IsWhole, is_own}
 use Rattle.mip_rules_correspondent.proofs.Wholes.{sending-long}
 use Rattle.mip_rules_correspondent.proofs.Walks.{every-call}
 
 abbrev AreWhole : List Answer → Type 0
-AreWhole answers = AllByRecursion IsWhole answers
+AreWhole answers = AllByRecursion (IsWhole is_own) answers
 
 whole-append : (xs ys : List Answer) → AreWhole xs → AreWhole ys → AreWhole (xs ++ ys)
 whole-append [] ys first second = second

@@ -2,17 +2,18 @@
 use Rattle.std.proofs.Common.{◌≡◌, ℕ, false, refl, ap, ◌∙◌}
 use Rattle.std.specs.Prelude.{if◌then◌else◌, Bool}
 use Rattle.mip_words.specs.declared.moment.Moment.{Moment}
+use Rattle.mip_entries.specs.Transitions.{last_after}
 use Rattle.mip_entries.proofs.TransitionLaws.{noted-now, noted-known}
 use Rattle.mip_rules_correspondent.specs.declared.identity.Identity.{Identity}
 use Rattle.mip_rules_correspondent.specs.declared.known.Known.{Known}
 use Rattle.mip_rules_correspondent.specs.Calls.{Call}
 use Rattle.mip_rules_correspondent.specs.Steps.{Step, Called, is_call}
-use Rattle.mip_rules_correspondent.specs.Questions.{last_after, after}
+use Rattle.mip_rules_correspondent.specs.Questions.{after}
 use Rattle.mip_rules_correspondent.specs.Transitions.{Transition, begun, noted}
 use Rattle.mip_rules_correspondent.specs.Doing.{does, transition_of}
 use Rattle.mip_rules_correspondent.proofs.Walks.{every-handles}
 
-last-noted : (step : Step) (t : Transition) → (noted step t).known.last ≡ last_after t.known t.now step
+last-noted : (step : Step) (t : Transition) → (noted step t).known.last ≡ last_after (is_call step) t.known.last t.now
 unfolding after
 last-noted step t = ap (λ (k : Known). k.last) (noted-known after step t)
 

@@ -4,12 +4,12 @@ use Rattle.std.specs.Prelude.{Option, Some, None, unwrap_or, option_map, fold, i
 use Rattle.mip_bcache.specs.Seen.{CacheSeen, expired}
 use Rattle.mip_words.specs.Last.{or_else, last_where}
 use Rattle.mip_entries.specs.Stamped.{Stamped}
-use Rattle.mip_entries.specs.Transitions.{StandsBy}
+use Rattle.mip_entries.specs.Transitions.{StandsBy, last_after}
 use Rattle.mip_entries.proofs.TransitionLaws.{known-push}
 use Rattle.mip_rules_correspondent.specs.declared.known.Known.{Known}
 use Rattle.mip_rules_correspondent.specs.Calls.{is_tick}
 use Rattle.mip_rules_correspondent.specs.Steps.{Step, Called, Accepts, is_call}
-use Rattle.mip_rules_correspondent.specs.Questions.{last_after, cache_after, after, fresh, known}
+use Rattle.mip_rules_correspondent.specs.Questions.{cache_after, after, fresh, known}
 use Rattle.mip_rules_correspondent.specs.Transitions.{Stands}
 
 -- whoever stands for a past knows what it leaves known, and the other way round
@@ -35,7 +35,7 @@ last_from k [] = refl
 last_from k (s ∷ past) =
     last_from (after k s) past ∙ by (last_where (λ (s : Stamped Step). is_call s.step) past) s.at s.step
   where
-    by : (o : Option (Stamped Step)) (at : ℕ) (step : Step) → moment_of o (last_after k at step).0 ≡ moment_of (or_else o (if is_call step then Some (record { at = at; step = step }) else None)) k.last.0
+    by : (o : Option (Stamped Step)) (at : ℕ) (step : Step) → moment_of o (last_after (is_call step) k.last at).0 ≡ moment_of (or_else o (if is_call step then Some (record { at = at; step = step }) else None)) k.last.0
     by (Some x) at step = refl
     by None at (Called call) = refl
     by None at _ = refl

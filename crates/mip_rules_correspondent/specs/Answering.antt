@@ -2,7 +2,7 @@
 use Rattle.std.specs.Prelude.{◌≡◌, ℕ, ◌≤◌, ◌+◌, List, [], ◌∷◌, true, false, if◌then◌else◌, Option, Some, Ok}
 use Rattle.mip_words.specs.Sequence.{is_after}
 use Rattle.mip_words.specs.declared.address.Address.{Address}
-use Rattle.mip_ipv6.specs.Packet.{Packet}
+use Rattle.mip_ipv6.specs.Packet.{Packet, names_no_body}
 use Rattle.mip_ipv6.specs.Reading.{packet_of}
 use Rattle.mip_nonce.specs.Window.{IsValidAt}
 use Rattle.mip_reception.specs.declared.registration.Registration.{Registration}
@@ -12,7 +12,7 @@ use Rattle.mip_rules_correspondent.specs.declared.identity.Identity.{Identity}
 use Rattle.mip_rules_correspondent.specs.declared.known.Known.{Known}
 use Rattle.mip_rules_correspondent.specs.declared.verdict.Verdict.{Verdict}
 use Rattle.mip_rules_correspondent.specs.declared.verdict.Verdict.TheVariants.{Refuse, Deny, Accept}
-use Rattle.mip_rules_correspondent.specs.Calls.{Call, Take, Part}
+use Rattle.mip_rules_correspondent.specs.Calls.{Call, Take, Part, Send}
 use Rattle.mip_rules_correspondent.specs.Steps.{Step, Called, Sends, Accepts, Denies, Drops}
 use Rattle.mip_rules_correspondent.specs.Questions.{floor_of, is_full_for}
 use Rattle.mip_rules_correspondent.specs.Verdicts.{verdict}
@@ -26,6 +26,11 @@ IsAnswered me number r (Refuse why) steps = steps ≡ Drops number why ∷ []
 IsAnswered me number r (Deny status last kbm) steps = steps ≡ Denies number status ∷ Sends (ack_packet me.own r status last 0 kbm) ∷ []
 IsAnswered me number r (Accept home binding accepted granted kbm) steps =
     steps ≡ Accepts number home binding accepted ∷ (if r.ack then Sends (ack_packet me.own r 0 r.sequence granted (Some kbm)) ∷ [] else [])
+
+-- what is sent as data is no packet, no mobility message and no extension header
+abbrev pub SendsPlainData : Call → Type 0
+SendsPlainData (Send to proto payload) = (names_no_body proto ≡ false) × (proto ≡ 135 → ⊥) × (proto ≡ 41 → ⊥)
+SendsPlainData _ = Unit {0}
 
 -- a call hands over this packet under this number
 abbrev pub HandsOver : Call → (number : ℕ) → Packet → Type 0

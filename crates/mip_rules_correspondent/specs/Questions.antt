@@ -1,17 +1,12 @@
 -- What a correspondent knows of its past: one question a field, and what each step makes of the answer.
 use Rattle.std.specs.Prelude.{ℕ, List, Bool, if◌then◌else◌, Option, option_map}
 use Rattle.mip_words.specs.declared.address.Address.{Address}
-use Rattle.mip_words.specs.declared.moment.Moment.{Moment}
 use Rattle.mip_bcache.specs.Seen.{CacheSeen, empty_cache, expired, with_acceptance, standing_at, holds_at, floor_at, has_no_room}
 use Rattle.mip_entries.specs.Stamped.{Stamped}
-use Rattle.mip_entries.specs.Transitions.{known_by}
+use Rattle.mip_entries.specs.Transitions.{known_by, last_after}
 use Rattle.mip_rules_correspondent.specs.declared.known.Known.{Known}
 use Rattle.mip_rules_correspondent.specs.Calls.{is_tick}
 use Rattle.mip_rules_correspondent.specs.Steps.{Step, Called, Accepts, is_call}
-
--- the moment of the last call that it was given, 0 before the first
-abbrev pub last_after : Known → ℕ → Step → Moment
-last_after k at step = if is_call step then record { 0 = at } else k.last
 
 -- the binding cache: an acceptance goes into it under its binding number, and what is past its time is given up as time
 -- goes on (RFC 6275 section 9.5.1)
@@ -22,7 +17,7 @@ cache_after cache at _ = cache
 
 -- one step more
 unfoldable pub after : Known → Stamped Step → Known
-after k s = record { last = last_after k s.at s.step; cache = cache_after k.cache s.at s.step }
+after k s = record { last = last_after (is_call s.step) k.last s.at; cache = cache_after k.cache s.at s.step }
 
 -- a new correspondent with room for so many homes, and for so many bindings of each
 abbrev pub fresh : ℕ → ℕ → Known

@@ -1,5 +1,5 @@
 -- What a correspondent does about a packet: one rule a paragraph. RFC 6275 section 9
-use Rattle.std.specs.Prelude.{ℕ, ◌-◌, List, length, Bool, true, false, not, ◌&&◌, ◌==◌, if◌then◌else◌, Option, Some, None, Result, Ok, Err}
+use Rattle.std.specs.Prelude.{ℕ, List, Bool, true, false, not, ◌&&◌, ◌==◌, if◌then◌else◌, Option, Some, None, Result, Ok, Err}
 use Rattle.mip_words.specs.Protocols.{ipv6, icmpv6, no_next_header, mobility_header}
 use Rattle.mip_words.specs.declared.address.Address.{Address}
 use Rattle.mip_words.specs.declared.why.Why.{Why}
@@ -19,6 +19,7 @@ use Rattle.mip_reception.specs.declared.refusal.Refusal.{Refusal}
 use Rattle.mip_reception.specs.declared.address_match.AddressMatch.{AddressMatch}
 use Rattle.mip_reception.specs.Words.{packet_why}
 use Rattle.mip_reception.specs.Checks.{checked}
+pub use Rattle.mip_reception.specs.Checks.{place_in}
 use Rattle.mip_reception.specs.Replies.{reply_packet}
 use Rattle.mip_rules_correspondent.specs.declared.identity.Identity.{Identity}
 use Rattle.mip_rules_correspondent.specs.declared.known.Known.{Known}
@@ -141,10 +142,6 @@ standing_of me k now head = record {
 abbrev pub after_checks : Identity → ℕ → List ℕ → Packet → Result (Option Said) Refusal → Transition → Transition
 after_checks me number bytes p (Err refusal) t = refuses me number bytes p.head.source refusal t
 after_checks me number bytes p (Ok message) t = by_role me number p message t
-
--- the place of a packet's body in its bytes
-abbrev pub place_in : List ℕ → Packet → ℕ
-place_in bytes p = length bytes - length p.body
 
 abbrev pub receives : Identity → ℕ → List ℕ → Result Packet NotPacket → Transition → Transition
 receives me number bytes (Err fault) t = noted (Drops number (packet_why fault)) t

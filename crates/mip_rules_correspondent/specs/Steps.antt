@@ -1,7 +1,6 @@
 -- The steps of a correspondent: what it was called for, and what it does about it.
 use Rattle.std.specs.Prelude.{ℕ, List, [], ◌∷◌, None, option_map, Bool, true, false}
 use Rattle.mip_words.specs.declared.address.Address.{Address}
-use Rattle.mip_words.specs.declared.ids.NodeId.{NodeId}
 use Rattle.mip_words.specs.declared.why.Why.{Why}
 use Rattle.mip_nonce.specs.Window.{index_of}
 use Rattle.mip_bcache.specs.declared.accepted.Accepted.{Accepted}
@@ -9,6 +8,7 @@ use Rattle.mip_entries.specs.declared.answer.Answer.{Answer}
 use Rattle.mip_entries.specs.declared.answer.Answer.TheVariants.{Send, Note}
 use Rattle.mip_entries.specs.declared.entry.Entry.TheVariants as entries
 use Rattle.mip_entries.specs.Shows.{answers_by}
+pub use Rattle.mip_entries.specs.Completed.{myself}
 use Rattle.mip_rules_correspondent.specs.Calls.{Call}
 
 pub data Step : Type 0 where
@@ -26,10 +26,6 @@ pub data Step : Type 0 where
   HandsUp : (number : ℕ) (source destination : Address) (proto : ℕ) (payload : List ℕ) → Step
   -- it was asked for something that can't be
   Idles : Step
-
--- a role writes 0 for its own number
-abbrev pub myself : NodeId
-myself = record { 0 = 0 }
 
 -- what shows of a step
 abbrev pub answer_of : Step → List Answer

@@ -44,7 +44,7 @@ ghost use Rattle.mip_rules_correspondent.specs.Sendings.{SendsOwn};
 ghost use Rattle.mip_rules_correspondent.specs.Refusing.{is_refusal};
 ghost use Rattle.mip_rules_correspondent.specs.StepsLaws.{hands_over};
 ghost use Rattle.mip_rules_correspondent.specs.Taken.{IsUpdateTaken, IsUpdateParted};
-ghost use Rattle.mip_rules_correspondent.specs.Wholes.{IsWhole};
+ghost use Rattle.mip_rules_correspondent.specs.Wholes.{IsWhole, is_own};
 
 /// The last moment known is that of the last call.
 pub fn last_is_of_the_last_call()
@@ -90,7 +90,7 @@ pub fn stands_after_each_call()
 
 /// Whatever a call gives out is whole.
 pub fn answers_are_whole()
-    ensures { (me : Identity) (k : Known) (now : ℕ) (c : Call) → AllByRecursion IsWhole (answers_of (transition_of me k now c).steps) }
+    ensures { (me : Identity) (k : Known) (now : ℕ) (c : Call) → AllByRecursion (IsWhole is_own) (answers_of (transition_of me k now c).steps) }
 {}
 
 /// Whatever a call sends is a packet that a correspondent sends at its moment: a test of its own, an acknowledgement, what

@@ -6,12 +6,12 @@ use Rattle.mip_words.specs.declared.address.Address.{Address}
 use Rattle.mip_words.specs.declared.moment.Moment.{Moment}
 use Rattle.mip_nonce.specs.Secrets.{Life}
 use Rattle.mip_entries.specs.Stamped.{Stamped}
-use Rattle.mip_entries.specs.Transitions.{StandsBy}
+use Rattle.mip_entries.specs.Transitions.{StandsBy, last_after}
 use Rattle.mip_entries.proofs.TransitionLaws.{noted-now, noted-known, stands-noted, stands-begun}
 use Rattle.mip_rules_mobile.specs.Calls.{Call}
 use Rattle.mip_rules_mobile.specs.Steps.{Step, Called, Parts, Notes, Drops, is_call}
 use Rattle.mip_rules_mobile.specs.Known.{Known}
-use Rattle.mip_rules_mobile.specs.Questions.{last_after, after, fresh, known}
+use Rattle.mip_rules_mobile.specs.Questions.{after, fresh, known}
 use Rattle.mip_rules_mobile.specs.Transitions.{Transition, begun, noted, Stands, with_transition}
 use Rattle.mip_rules_mobile.specs.Doing.{does, transition_of}
 use Rattle.mip_rules_mobile.proofs.Walks.{every-handles, every-call}
@@ -35,7 +35,7 @@ call-stands home declared numbers secrets past k now c stands =
     (λ t s. stands-noted after first past (Called c) t s)
     (begun now k) (stands-begun after first past now k stands)
 
-last-noted : (step : Step) (t : Transition) → (noted step t).known.last ≡ last_after t.known t.now step
+last-noted : (step : Step) (t : Transition) → (noted step t).known.last ≡ last_after (is_call step) t.known.last t.now
 unfolding after
 last-noted step t = ap (λ (k : Known). k.last) (noted-known after step t)
 

@@ -18,16 +18,16 @@ use Rattle.mip_rules_mobile.specs.Steps.{Unregisters, Tries, Unbinds, Rings}
 use Rattle.mip_rules_mobile.specs.RowQuestions.{peer_of_row, trial_of}
 use Rattle.mip_rules_mobile.specs.TimerQuestions.{moment}
 use Rattle.mip_rules_mobile.specs.Transitions.{Transition, noted}
-use Rattle.mip_rules_mobile.specs.RingingRules.{renews_home, ends_home, ends_at, ends_row, rings_home, does_work, rings, rings_on, ticks, ticks_all}
+use Rattle.mip_rules_mobile.specs.RingingRules.{registers_if_away, ends_home, ends_at, ends_row, rings_home, does_work, rings, rings_on, ticks, ticks_all}
 use Rattle.mip_rules_mobile.proofs.Steady.{Goes}
 use Rattle.mip_rules_mobile.proofs.TrialWalks.{every-starts, every-resends_row, doubled-positive}
 use Rattle.mip_rules_mobile.proofs.HomeWalks.{every-registers, every-resends_home, every-seeks_again}
 
 module _ (c : Call) (P : Transition → Type 0) (more : Goes c P) (other : is_take c ≡ false) where
-  every-renews_home : (t : Transition) → P t → P (renews_home t.known.standing t)
-  every-renews_home t p = by t.known.standing refl
+  every-registers_if_away : (t : Transition) → P t → P (registers_if_away t.known.standing t)
+  every-registers_if_away t p = by t.known.standing refl
     where
-      by : (s : Attachment) → t.known.standing ≡ s → P (renews_home s t)
+      by : (s : Attachment) → t.known.standing ≡ s → P (registers_if_away s t)
       by Detached here = p
       by AtHome here = p
       by (Away careof) here = every-registers c P more careof t here p
@@ -52,7 +52,7 @@ module _ (c : Call) (P : Transition → Type 0) (more : Goes c P) (other : is_ta
 
   every-rings_home : (timer : HomeTimer) (t : Transition) → P t → P (rings_home timer t)
   every-rings_home home_timers.Resend t p = every-resends_home c P more _ t (doubled-positive t.known.wait) p
-  every-rings_home home_timers.Renew t p = every-renews_home t p
+  every-rings_home home_timers.Renew t p = every-registers_if_away t p
   every-rings_home home_timers.End t p = every-ends_home t.known.registered t p
   every-rings_home home_timers.Discover t p = every-seeks_again c P more t p
 

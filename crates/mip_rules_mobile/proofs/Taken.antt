@@ -70,7 +70,7 @@ use Rattle.mip_rules_mobile.proofs.Trusts.{opened-source, answer-counts, shielde
 use Rattle.mip_rules_mobile.proofs.OutWalks.{every-replies}
 
 -- something was refused, and stays so
-abbrev HasRefused : Transition → Type 0
+abbrev pub HasRefused : Transition → Type 0
 HasRefused t = list_any is_refusal t.steps ≡ true
 
 or-last : (b : Bool) → (b || true) ≡ true

@@ -13,7 +13,9 @@ use Rattle.mip_entries.specs.declared.entry.Entry.TheVariants as entries
 use Rattle.mip_entries.specs.Reasons.{is_unsent_why}
 use Rattle.mip_rules_correspondent.specs.declared.identity.Identity.{Identity}
 use Rattle.mip_rules_correspondent.specs.Rules.{home_test, careof_test, is_data}
-use Rattle.mip_rules_correspondent.specs.Wholes as parts
+use Rattle.mip_rules_correspondent.specs.Wholes as wholes
+use Rattle.mip_rules_correspondent.specs.Answering as parts
+use Rattle.mip_rules_correspondent.specs.Calls as part_calls
 use Rattle.mip_rules_mobile.specs.declared.attachment.Attachment.{Attachment}
 use Rattle.mip_rules_mobile.specs.declared.attachment.Attachment.TheVariants.{Detached, AtHome, Away}
 use Rattle.mip_rules_mobile.specs.Calls as calls
@@ -36,7 +38,7 @@ CanBeAsked _ = Unit {0}
 
 -- what it is asked to send as data is no packet, no mobility message and no extension header
 abbrev pub SendsPlainData : Call → Type 0
-SendsPlainData (calls.Send to proto payload) = (names_no_body proto ≡ false) × (proto ≡ 135 → ⊥) × (proto ≡ 41 → ⊥)
+SendsPlainData (calls.Send to proto payload) = parts.SendsPlainData (part_calls.Send to proto payload)
 SendsPlainData _ = Unit {0}
 
 -- the entries that a mobile leaves beside those of its correspondent part, with a reason of their kind
@@ -60,7 +62,7 @@ is_mobiles _ = false
 -- whole: a packet has its fixed header (RFC 8200 section 3), and an entry is of a kind that a mobile leaves, with a reason of its kind
 abbrev pub IsWhole : Known → Answer → Type 0
 IsWhole k (Send shield packet) = 40 ≤ length packet
-IsWhole k (Note entry) = (is_mobiles entry || parts.is_own entry) ≡ true
+IsWhole k (Note entry) = (is_mobiles entry || wholes.is_own entry) ≡ true
 
 -- the source of a packet in bytes
 abbrev pub source_bytes : List ℕ → List ℕ

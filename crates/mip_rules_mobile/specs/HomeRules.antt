@@ -63,6 +63,12 @@ registers_at careof (Some agent) t = registers_with careof agent (wait_behind t.
 unfoldable pub registers : Address → Transition → Transition
 registers careof t = registers_at careof (target_of t.known) t
 
+-- away, the home address is registered: as a new life begins, and before a registration ends
+abbrev pub registers_if_away : Attachment → Transition → Transition
+registers_if_away Detached t = t
+registers_if_away AtHome t = t
+registers_if_away (Away careof) t = registers careof t
+
 abbrev pub deregisters_at : Option Address → Transition → Transition
 deregisters_at None t = t
 deregisters_at (Some agent) t = deregisters_with agent initial_bindack_timeout t

@@ -14,6 +14,7 @@ use Rattle.mip_rules_mobile.specs.RowQuestions.{peer_of_row, is_bound_row}
 use Rattle.mip_rules_mobile.specs.Transitions.{Transition, noted}
 use Rattle.mip_rules_mobile.specs.TrialRules.{each_row}
 use Rattle.mip_rules_mobile.specs.HomeRules.{registers, deregisters_at}
+pub use Rattle.mip_rules_mobile.specs.HomeRules.{registers_if_away}
 
 -- the address that it holds is released: away, the care-of address; at home, the home address where a claim of it would be
 -- granted
@@ -75,10 +76,5 @@ attaches prefix of_home of_address t =
     else arrives prefix of_address (leaves_first t.known.standing of_home t)
 
 -- away, the new life begins with a registration
-abbrev pub registers_if_away : Attachment → Transition → Transition
-registers_if_away Detached t = t
-registers_if_away AtHome t = t
-registers_if_away (Away careof) t = registers careof t
-
 unfoldable pub restarts : Life → Transition → Transition
 restarts secrets t = registers_if_away t.known.standing (noted (Restarts secrets) t)

@@ -1,10 +1,9 @@
 -- What a mobile knows of its past, and what each step makes of it.
-use Rattle.std.specs.Prelude.{ℕ, List, [], false, if◌then◌else◌, Option, None}
+use Rattle.std.specs.Prelude.{ℕ, List, [], false, Option, None}
 use Rattle.mip_words.specs.declared.address.Address.{Address}
-use Rattle.mip_words.specs.declared.moment.Moment.{Moment}
 use Rattle.mip_nonce.specs.Secrets.{Life}
 use Rattle.mip_entries.specs.Stamped.{Stamped}
-use Rattle.mip_entries.specs.Transitions.{known_by}
+use Rattle.mip_entries.specs.Transitions.{known_by, last_after}
 use Rattle.mip_rules_correspondent.specs.Questions as parts
 use Rattle.mip_rules_correspondent.specs.Seen.{CorrespondentSeen, called}
 use Rattle.mip_rules_mobile.specs.declared.attachment.Attachment.TheVariants.{AtHome}
@@ -14,10 +13,6 @@ use Rattle.mip_rules_mobile.specs.HomeQuestions.{standing_after, places_after, r
 use Rattle.mip_rules_mobile.specs.DiscoveryQuestions.{discovery_after, discoveries_after, found_after, tried_after, chosen_after, solicitations_after}
 use Rattle.mip_rules_mobile.specs.RowQuestions.{rows_after, peers_after, cookies_after, fresh_peers}
 use Rattle.mip_rules_mobile.specs.TimerQuestions.{timers_after}
-
--- the moment of the last call that it was given, 0 before the first
-abbrev pub last_after : Known → ℕ → Step → Moment
-last_after k at step = if is_call step then record { 0 = at } else k.last
 
 -- how many homes its correspondent part keeps
 abbrev pub part_room : ℕ
@@ -36,7 +31,7 @@ part_after part at _ = part
 -- one step more
 unfoldable pub after : Known → Stamped Step → Known
 after k s = record {
-  last = last_after k s.at s.step;
+  last = last_after (is_call s.step) k.last s.at;
   part = part_after k.part s.at s.step;
   declared = k.declared;
   standing = standing_after k s.step;

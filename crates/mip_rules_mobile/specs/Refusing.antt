@@ -1,14 +1,8 @@
 -- What a mobile keeps of a packet that it drops, or of an update that it denies: nothing but the moment.
 use Rattle.std.specs.Prelude.{Bool, true, false}
-use Rattle.mip_entries.specs.declared.entry.Entry.{Entry}
-use Rattle.mip_entries.specs.declared.entry.Entry.TheVariants.{Dropped, Denied}
+pub use Rattle.mip_reception.specs.Refusing.{tells_of_refusal, refuses}
 use Rattle.mip_rules_mobile.specs.Steps.{Step, Notes, Drops}
 use Rattle.mip_rules_mobile.specs.Known.{Known}
-
-abbrev pub tells_of_refusal : Entry → Bool
-tells_of_refusal (Dropped node number why) = true
-tells_of_refusal (Denied node number status) = true
-tells_of_refusal _ = false
 
 -- a packet is dropped, or an update is denied
 abbrev pub is_refusal : Step → Bool

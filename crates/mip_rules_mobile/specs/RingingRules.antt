@@ -6,8 +6,6 @@ use Rattle.mip_bulist.specs.declared.home_timer.HomeTimer.TheVariants as home_ti
 use Rattle.mip_bulist.specs.declared.work.Work.{Work}
 use Rattle.mip_bulist.specs.declared.work.Work.TheVariants.{Resend, Renew, End, Home}
 use Rattle.mip_bulist.specs.Timers.{due_work}
-use Rattle.mip_rules_mobile.specs.declared.attachment.Attachment.{Attachment}
-use Rattle.mip_rules_mobile.specs.declared.attachment.Attachment.TheVariants.{Detached, AtHome, Away}
 use Rattle.mip_rules_mobile.specs.declared.registered.Registered.{Registered}
 use Rattle.mip_rules_mobile.specs.Timing.{doubled}
 use Rattle.mip_rules_mobile.specs.Trials.{Rest, is_bound}
@@ -16,13 +14,8 @@ use Rattle.mip_rules_mobile.specs.RowQuestions.{peer_of_row, trial_of}
 use Rattle.mip_rules_mobile.specs.TimerQuestions.{moment}
 use Rattle.mip_rules_mobile.specs.Transitions.{Transition, noted}
 use Rattle.mip_rules_mobile.specs.TrialRules.{starts, resends_row}
-use Rattle.mip_rules_mobile.specs.HomeRules.{seeks_again, registers, resends_home}
-
--- the registration is renewed, before it ends
-abbrev pub renews_home : Attachment → Transition → Transition
-renews_home Detached t = t
-renews_home AtHome t = t
-renews_home (Away careof) t = registers careof t
+use Rattle.mip_rules_mobile.specs.HomeRules.{seeks_again, resends_home}
+pub use Rattle.mip_rules_mobile.specs.HomeRules.{registers_if_away}
 
 -- the registration ends
 abbrev pub ends_home : Option Registered → Transition → Transition
@@ -43,7 +36,7 @@ ends_row row t = ends_at (peer_of_row t.known row) row t
 -- the timers of the home registration
 abbrev pub rings_home : HomeTimer → Transition → Transition
 rings_home home_timers.Resend t = resends_home (doubled t.known.wait) t
-rings_home home_timers.Renew t = renews_home t.known.standing t
+rings_home home_timers.Renew t = registers_if_away t.known.standing t
 rings_home home_timers.End t = ends_home t.known.registered t
 rings_home home_timers.Discover t = seeks_again t
 

@@ -2,7 +2,6 @@
 use Rattle.std.specs.Prelude.{ℕ, List, [], ◌∷◌, None, Bool, true, false}
 use Rattle.mip_words.specs.declared.address.Address.{Address}
 use Rattle.mip_words.specs.declared.moment.Moment.{Moment}
-use Rattle.mip_words.specs.declared.ids.NodeId.{NodeId}
 use Rattle.mip_words.specs.declared.ids.LinkId.{LinkId}
 use Rattle.mip_words.specs.declared.why.Why.{Why}
 use Rattle.mip_nonce.specs.Secrets.{Life}
@@ -12,6 +11,7 @@ use Rattle.mip_entries.specs.declared.answer.Answer.TheVariants.{Send, Note}
 use Rattle.mip_entries.specs.declared.entry.Entry.{Entry}
 use Rattle.mip_entries.specs.declared.entry.Entry.TheVariants as entries
 use Rattle.mip_entries.specs.Shows.{answers_by}
+pub use Rattle.mip_entries.specs.Completed.{myself}
 use Rattle.mip_rules_correspondent.specs.Calls as parts
 use Rattle.mip_rules_mobile.specs.Calls.{Call}
 use Rattle.mip_rules_mobile.specs.Trials.{Change}
@@ -75,10 +75,7 @@ pub data Step : Type 0 where
   Stops : (work : Work) → Step
   Rings : (work : Work) → Step
 
--- a role writes 0 for its own number, for a link, and for the number of a packet that it sends next
-abbrev pub myself : NodeId
-myself = record { 0 = 0 }
-
+-- a role writes 0 for a link, and for the number of a packet that it sends next
 abbrev pub some_link : LinkId
 some_link = record { 0 = 0 }
 

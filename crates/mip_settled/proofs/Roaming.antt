@@ -134,8 +134,8 @@ bare_along c now k (step ∷ steps) each bare = bare_along c now (after k (recor
 bare_transition : (k : Known) (now : ℕ) (c : mobiles.Call) → IsBare k → IsBare (transition_of k now c).known
 bare_transition k now c bare = let is = call-along k now c in subst IsBare (sym is.known) (bare_along c now k (transition_of k now c).steps is.each bare)
 
--- an address that is found taken
-apart_standing : (own : Address) (k : Known) (at : ℕ) (address : Address) (holder : ℕ) → address_of own (let x : Known = after k (record { at = at; step = FindsTaken address holder }) in x.standing) ≡ None
+-- as it finds an address taken, it uses none
+pub apart_standing : (own : Address) (k : Known) (at : ℕ) (address : Address) (holder : ℕ) → address_of own (let x : Known = after k (record { at = at; step = FindsTaken address holder }) in x.standing) ≡ None
 unfolding after
 apart_standing own k at address holder = refl
 

@@ -1,6 +1,5 @@
 -- What becomes of a node's answers once its wire took its packets.
 use Rattle.std.specs.Prelude.{◌≡◌, ◌≤◌, ℕ, Bool, IsTrue, List, [], ◌∷◌, ◌++◌, take, length, map, Option, option_map, Result, Ok, Err}
-use Rattle.mip_words.specs.declared.ids.NodeId.{NodeId}
 use Rattle.mip_words.specs.declared.shield.Shield.{Shield}
 use Rattle.mip_words.specs.declared.why.Why.{Why}
 use Rattle.mip_words.specs.declared.why.Why.TheVariants as whys
@@ -14,10 +13,7 @@ use Rattle.mip_entries.specs.declared.answer.Answer.{Answer}
 use Rattle.mip_entries.specs.declared.answer.Answer.TheVariants.{Send, Note}
 use Rattle.mip_entries.specs.declared.entry.Entry.{Entry}
 use Rattle.mip_entries.specs.declared.entry.Entry.TheVariants as entries
-
--- a role writes 0 for its own number
-abbrev pub myself : NodeId
-myself = record { 0 = 0 }
+use Rattle.mip_entries.specs.Completed.{myself}
 
 -- a packet that the wire sent is a `Send`; one that it did not send is an entry that says why
 abbrev pub after_put : Put → Option Shield → List ℕ → Answer

@@ -3,7 +3,7 @@ use Rattle.mip_bulist.specs.declared.home_timer.HomeTimer.{HomeTimer}
 use Rattle.mip_afresh_mobile_state.specs.Turns.{Goes}
 use Rattle.mip_rules_mobile.specs.Timing.{doubled}
 use Rattle.mip_rules_mobile.specs.HomeRules.{resends_home}
-use Rattle.mip_rules_mobile.specs.RingingRules.{renews_home, ends_home, rings_home}
+use Rattle.mip_rules_mobile.specs.RingingRules.{registers_if_away, ends_home, rings_home}
 use Rattle.mip_afresh_mobile_rules.proofs.Asking.{asked}
 use Rattle.mip_afresh_mobile_rules.proofs.ringing.ring_home.Goals as goal
 
@@ -16,7 +16,7 @@ returns-in-Resend c =
 pub returns-in-Renew : goal.returns-in-Renew
 returns-in-Renew c =
     subst (λ (timer : HomeTimer). Goes c.renew_home.result (rings_home timer) c.args.turn.now c.renew_home.new.turn) (sym c.in-Renew.is)
-    (asked c.renew_home.result c.args.turn.now c.renew_home.new.turn (λ k n. k.standing) c.standing-standing.result (λ s. renews_home s) c.standing-standing.ensures c.renew_home.ensures)
+    (asked c.renew_home.result c.args.turn.now c.renew_home.new.turn (λ k n. k.standing) c.standing-standing.result (λ s. registers_if_away s) c.standing-standing.ensures c.renew_home.ensures)
 
 pub returns-in-End : goal.returns-in-End
 returns-in-End c =

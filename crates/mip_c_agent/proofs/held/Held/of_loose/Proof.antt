@@ -25,7 +25,8 @@ use Rattle.std.proofs.alloc.Global.TheLaws as heap_laws
 use Rattle.std.specs.contracts.impls.GlobalAllocator.TheImpl.{ghosts}
 use Rattle.mip_c_agent.specs.contracts.station.Station as station
 use Rattle.mip_c_words.proofs.Values.{both, Loose, loose_good, loose_out}
-use Rattle.mip_c_agent.proofs.HeldValues.{word, held_in}
+use Rattle.mip_c_words.proofs.Values.{word}
+use Rattle.mip_c_agent.proofs.HeldValues.{held_in}
 use Rattle.mip_c_agent.specs.contracts.held.Held.of_loose.{ended, clauses}
 use Rattle.mip_c_agent.specs.contracts.held.Held.of_loose.Key.{name as #self}
 use Rattle.mip_c_agent.proofs.held.Held.of_loose.Statement.{statement}

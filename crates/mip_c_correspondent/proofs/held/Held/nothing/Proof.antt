@@ -17,14 +17,15 @@ use denote.Steps.{nothing}
 use denote.Triple.Walked.{Stays, walk_of}
 use Rattle.std.proofs.raw_atomic.Walks.{proved_at, leaves}
 use Rattle.std.specs.Prelude.{None, Option}
-use Rattle.mip_c_correspondent.specs.Keeping.{Kept}
-use Rattle.mip_c_correspondent.proofs.HeldValues.{word, held_in}
+use Rattle.mip_c_correspondent.specs.contracts.station.Station as station
+use Rattle.mip_c_words.proofs.Values.{word}
+use Rattle.mip_c_correspondent.proofs.HeldValues.{held_in}
 use Rattle.mip_c_correspondent.specs.contracts.held.Held.nothing.{ended, clauses}
 use Rattle.mip_c_correspondent.specs.contracts.held.Held.nothing.Key.{name as #self}
 use Rattle.mip_c_correspondent.proofs.held.Held.nothing.Statement.{statement}
 use Rattle.mip_c_correspondent.proofs.held.Held.nothing.Code as code
 
-abbrev empty : Option Kept
+abbrev empty : Option station.the_row.Denot
 empty = None
 
 pub nothing_spec : {M : Type 1} → statement M

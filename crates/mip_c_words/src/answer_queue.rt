@@ -1,7 +1,7 @@
 //! The answers of a call, as C fetches them one by one.
 
 ghost use Rattle.std.specs.Prelude.{◌≡◌, slice_get};
-ghost use Rattle.mip_c_words.specs.Outboxes.{TellsNext};
+ghost use Rattle.mip_c_words.specs.AnswerQueues.{TellsNext};
 
 use crate::answer_fields::{AnswerFields, bytes_of, fields_of};
 use crate::giving::tell;
@@ -10,17 +10,17 @@ use mip_entries::Answers;
 
 /// The answers of the last call of a node that C holds, with how many of them were fetched.
 #[derive(Drop)]
-pub struct Outbox {
+pub struct AnswerQueue {
     pub answers: Answers,
     pub given: usize,
 }
 
-impl Outbox {
+impl AnswerQueue {
     /// The answers of a call, of which none was fetched yet.
-    pub fn of(answers: Answers) -> Outbox
+    pub fn of(answers: Answers) -> AnswerQueue
         ensures { result ≡ record { answers = answers; given = 0 } }
     {
-        Outbox { answers, given: 0 }
+        AnswerQueue { answers, given: 0 }
     }
 
     /// Tells the next answer.
