@@ -11,7 +11,7 @@ use crate::setting::Setting;
 use crate::turn_moment::TurnMoment;
 use mip_config::Role as Named;
 use mip_entries::Answers;
-use mip_roles::{Call, Kind, Role};
+use mip_roles::{BindingNumbers, Call, Kind, Role};
 use mip_words::{Address, Memory, Moment};
 
 /// The address that a node is known by: the home address of a mobile.
@@ -61,7 +61,16 @@ fn new_role(setting: &Setting<'_>) -> Result<Role, Memory>
     let config = setting.config;
     let kind = kind_of(setting)?;
     let own = address_of(&config.role);
-    Role::new(setting.alloc, &config.seed, config.node, 0, own, &kind, 1)
+    let numbers = BindingNumbers { count: 1 };
+    Role::new(
+        setting.alloc,
+        &config.seed,
+        config.node,
+        0,
+        own,
+        &kind,
+        numbers,
+    )
 }
 
 /// The role is asked something, where nobody else holds an address.
