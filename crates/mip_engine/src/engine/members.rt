@@ -9,6 +9,7 @@ ghost use Rattle.mip_roles.specs.Roles.{due_of, homes_of, is_roaming, rows_of};
 ghost use Rattle.mip_roles.specs.Nodes.{NodeSeen, router_of, seen_router};
 ghost use Rattle.mip_engine.specs.Engines.{IsFree, answers_of, acted, reborn, stood, joined, station_of, lives_at};
 
+use crate::claimer::Claimer;
 use crate::engine::Engine;
 use mip_entries::{Answers, Entry};
 use mip_nonce::Secrets;
@@ -190,6 +191,9 @@ impl Engine {
             link,
             address,
         })?;
-        self.take_free(Holder::Node(id), address)
+        let by = Claimer {
+            who: Holder::Node(id),
+        };
+        self.take_free(by, address)
     }
 }
