@@ -4,6 +4,7 @@
 
 mod accepted_binding;
 mod answering;
+mod arrived_packet;
 mod correspondent;
 mod packet_context;
 mod part;

@@ -1,15 +1,16 @@
 //! What a correspondent does about a packet (RFC 6275 sections 9.2 to 9.5).
 
-ghost use Rattle.std.specs.Prelude.{◌≡◌, ◌<◌, ◌^◌, ◌-◌, IfOk, IsTrue, option_map, Ok};
+ghost use Rattle.std.specs.Prelude.{◌≡◌, IfOk, IsTrue, option_map};
 ghost use Rattle.mip_ipv6.specs.Packet.{packet as tree, is_routable_if_any};
 ghost use Rattle.mip_ipv6.specs.Reading.{packet_of};
 ghost use Rattle.mip_mobhdr.specs.Said.{said};
 ghost use Rattle.mip_packets.specs.Updates.{IsReadUpdate};
-ghost use Rattle.mip_rules_correspondent.specs.Rules.{holds_option, standing_of, refuses, other_why, by_role, place_in, receives};
+ghost use Rattle.mip_rules_correspondent.specs.Rules.{holds_option, standing_of, refuses, other_why, by_role, receives};
 ghost use Rattle.mip_correspondent.specs.Showing.{left, Fits, Goes, Leads};
 
 use crate::accepted_binding::AcceptedBinding;
 use crate::answering::{drop_packet, send};
+use crate::arrived_packet::ArrivedPacket;
 use crate::packet_context::PacketContext;
 use crate::part::{answer_message, is_for_part};
 use mip_entries::Answers;
@@ -98,23 +99,20 @@ fn take_packet(
     alloc: Global,
     answers: &mut Answers,
     context: &PacketContext<'_>,
-    bytes: &[u8],
-    packet: &PacketRef<'_>,
+    arrived: &ArrivedPacket<'_>,
 ) -> Result<Option<AcceptedBinding>, Memory>
-    requires plain { IsTrue (is_routable_if_any packet.now.head.home) }
-    requires placed { packet.now.place ≡ place_in bytes.now (tree packet.now) }
-    requires near { packet.now.place < 2 ^ 32 - 1 }
-    requires read { packet_of bytes.now ≡ Ok (tree packet.now) }
     ensures fits { IfOk result (Fits context.now.moment.0 context.now.cache.now) }
     ensures shows { Leads context.now.moment.0 context.now.cache.now result
-        (receives context.now.identity.now context.now.number bytes.now (packet_of bytes.now)) answers.old answers.new }
+        (receives context.now.identity.now context.now.number arrived.now.bytes.now (packet_of arrived.now.bytes.now)) answers.old answers.new }
 {
-    match check(packet, standing(context, &packet.head)) {
+    let packet = arrived.packet;
+    match check(&packet, standing(context, &packet.head)) {
         Err(refusal) => {
-            refuse(alloc, answers, context, bytes, packet.head.source, refusal)?;
+            let source = packet.head.source;
+            refuse(alloc, answers, context, arrived.bytes, source, refusal)?;
             Ok(None)
         }
-        Ok(message) => answer_role(alloc, answers, context, packet, &message),
+        Ok(message) => answer_role(alloc, answers, context, &packet, &message),
     }
 }
 
@@ -134,6 +132,9 @@ pub fn receive(
             drop_packet(answers, context.number, packet_why(fault))?;
             Ok(None)
         }
-        Ok(packet) => take_packet(alloc, answers, context, bytes, &packet),
+        Ok(packet) => {
+            let arrived = ArrivedPacket { bytes, packet };
+            take_packet(alloc, answers, context, &arrived)
+        }
     }
 }

@@ -10,6 +10,7 @@ ghost use Rattle.mip_engine.specs.Engines.{with_entries};
 ghost use Rattle.mip_engine.specs.Standing.{Goes};
 
 use crate::engine::Engine;
+use crate::station::Station;
 use mip_entries::Entry;
 use mip_roles::Call;
 use mip_words::{LinkId, Memory, NodeId};
@@ -26,7 +27,7 @@ impl Engine {
             None => return self.note(Entry::Idle),
         };
         let answers = self.ask_node(alloc, node, call)?;
-        self.answer(node, from, answers)
+        self.answer(Station { node, from }, answers)
     }
 
     /// A node leaves where it is, and stands on a link or on none.

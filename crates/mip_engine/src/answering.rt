@@ -1,6 +1,6 @@
 //! What a node answers, packet by packet and entry by entry.
 
-ghost use Rattle.std.specs.Prelude.{◌≡◌, ◌<◌, true, option_copied, option_map};
+ghost use Rattle.std.specs.Prelude.{◌≡◌, true, option_copied, option_map};
 ghost use Rattle.std.specs.List.{AllByRecursion};
 ghost use Rattle.mip_history.specs.Nodes.{answered, answered_one, left_by};
 ghost use Rattle.mip_roles.specs.RolesLaws.{IsWhole, is_apart};
@@ -8,6 +8,7 @@ ghost use Rattle.mip_engine.specs.Groups.{is_plain};
 ghost use Rattle.mip_engine.specs.Standing.{Goes};
 
 use crate::engine::Engine;
+use crate::station::Station;
 use mip_entries::{Answer, Answers, Entry, Witness};
 use mip_words::{Holder, LinkId, Memory, NodeId};
 
@@ -30,57 +31,49 @@ impl Engine {
     /// An entry of a node is left. Who holds an address is decided as it is claimed, and a restart was noted as it happened.
     fn note_left(
         &mut self,
-        node: NodeId,
+        at: Station,
         entry: Entry,
         witness: Option<&Witness>,
     ) -> Result<(), Memory>
-        requires node { node.0 < 40 }
         requires apart { is_apart entry ≡ true }
-        ensures { Goes result self.old self.new (λ s run. left_by s node.0 run entry) }
+        ensures { Goes result self.old self.new (λ s run. left_by s at.node.0 run entry) }
     {
+        let who = Holder::Node(at.node);
         match entry {
-            Entry::Claimed { address, .. } => self.claim(Holder::Node(node), address),
-            Entry::Taken { address, .. } => self.claim(Holder::Node(node), address),
-            Entry::Released { address, .. } => self.give_up(Holder::Node(node), address),
+            Entry::Claimed { address, .. } => self.claim(who, address),
+            Entry::Taken { address, .. } => self.claim(who, address),
+            Entry::Released { address, .. } => self.give_up(who, address),
             Entry::Restarted { .. } => Ok(()),
-            entry => self.note_named(node, entry, witness),
+            entry => self.note_named(at.node, entry, witness),
         }
     }
 
     fn answer_one(
         &mut self,
-        node: NodeId,
-        from: LinkId,
+        at: Station,
         answer: Answer,
         witness: Option<&Witness>,
     ) -> Result<(), Memory>
         requires whole { IsWhole answer }
-        requires node { node.0 < 40 }
-        ensures { Goes result self.old self.new (λ s run. answered_one s node.0 from.0 run answer) }
+        ensures { Goes result self.old self.new (λ s run. answered_one s at.node.0 at.from.0 run answer) }
     {
         match answer {
-            Answer::Send { shield, packet } => self.send(node, from, shield, packet),
-            Answer::Note(entry) => self.note_left(node, entry, witness),
+            Answer::Send { shield, packet } => self.send(at.node, at.from, shield, packet),
+            Answer::Note(entry) => self.note_left(at, entry, witness),
         }
     }
 
     /// What a node does is done, in order.
     #[tactic(auto, unfolding(mip_history::specs::Nodes::answered))]
-    pub(crate) fn answer(
-        &mut self,
-        node: NodeId,
-        from: LinkId,
-        answers: Answers,
-    ) -> Result<(), Memory>
+    pub(crate) fn answer(&mut self, at: Station, answers: Answers) -> Result<(), Memory>
         requires whole { AllByRecursion IsWhole answers }
-        requires node { node.0 < 40 }
-        ensures { Goes result self.old self.new (λ s run. answered s node.0 from.0 run answers) }
+        ensures { Goes result self.old self.new (λ s run. answered s at.node.0 at.from.0 run answers) }
     {
         let mut answers = answers;
         let witness = answers.take_witness();
         let witness = lent(&witness);
         for answer in answers.into_vec() {
-            self.answer_one(node, from, answer, witness)?;
+            self.answer_one(at, answer, witness)?;
         }
         Ok(())
     }

@@ -12,6 +12,7 @@ ghost use Rattle.mip_history.specs.Homes.{given_up_on, gives_up, passes_to};
 ghost use Rattle.mip_engine.specs.Engines.{IsFree, resident_of};
 ghost use Rattle.mip_engine.specs.Standing.{Goes};
 
+use crate::claimer::Claimer;
 use crate::engine::Engine;
 use mip_entries::Entry;
 use mip_words::{Address, Holder, LinkId, Memory, NodeId};
@@ -24,12 +25,11 @@ fn is_node(who: Holder, node: NodeId) -> bool
 }
 
 impl Engine {
-    fn claim_on(&mut self, who: Holder, link: LinkId, address: Address) -> Result<(), Memory>
-        requires who { holder_number who < 40 }
+    fn claim_on(&mut self, by: Claimer, link: LinkId, address: Address) -> Result<(), Memory>
         requires link { link_of self.old.net.links address.0 ≡ Some link.0 }
-        ensures { Goes result self.old self.new (λ s run. note (claim_entry (holder_number who) address link.0 (holder_in run.past address.0)) run) }
+        ensures { Goes result self.old self.new (λ s run. note (claim_entry (holder_number by.who) address link.0 (holder_in run.past address.0)) run) }
     {
-        let entry = self.take_claim(who, link, address)?;
+        let entry = self.take_claim(by, link, address)?;
         self.note(entry)
     }
 
@@ -39,7 +39,7 @@ impl Engine {
         ensures { Goes result self.old self.new (λ s run. claims s (holder_number who) address run) }
     {
         match self.link_of(address) {
-            Some(link) => self.claim_on(who, link, address),
+            Some(link) => self.claim_on(Claimer { who }, link, address),
             None => self.note(Entry::Idle),
         }
     }
@@ -59,13 +59,12 @@ impl Engine {
     }
 
     /// Somebody has an address that nobody had.
-    pub(crate) fn hold(&mut self, who: Holder, link: LinkId, address: Address) -> Result<(), Memory>
-        requires who { holder_number who < 40 }
-        requires free { refusal self.old.net (holder_number who) address.0 ≡ None }
-        ensures { Goes result self.old self.new (λ s run. note (Claimed (holder_number who) link address) run) }
+    pub(crate) fn hold(&mut self, by: Claimer, link: LinkId, address: Address) -> Result<(), Memory>
+        requires free { refusal self.old.net (holder_number by.who) address.0 ≡ None }
+        ensures { Goes result self.old self.new (λ s run. note (Claimed (holder_number by.who) link address) run) }
     {
-        self.take_free(who, address)?;
-        let who = who.number();
+        self.take_free(by, address)?;
+        let who = by.who.number();
         self.note(Entry::Claimed { who, link, address })
     }
 
@@ -80,7 +79,10 @@ impl Engine {
         if is_node(who, node) {
             return Ok(());
         }
-        self.hold(Holder::Node(node), link, address)
+        let by = Claimer {
+            who: Holder::Node(node),
+        };
+        self.hold(by, link, address)
     }
 
     fn give_up_on(&mut self, who: Holder, link: LinkId, address: Address) -> Result<(), Memory>

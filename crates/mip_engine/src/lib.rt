@@ -4,6 +4,7 @@
 mod acting;
 mod answering;
 mod arrival;
+mod claimer;
 mod claiming;
 mod claims;
 mod engine;
@@ -12,6 +13,7 @@ pub mod header;
 mod hosts;
 mod posting;
 mod setup;
+mod station;
 
 pub use arrival::Arrival;
 pub use engine::Engine;

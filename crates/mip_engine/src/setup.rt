@@ -15,6 +15,7 @@ ghost use Rattle.mip_engine.specs.Joining.{ArePlaced, hosts_of, anycast_for};
 ghost use Rattle.mip_engine.specs.Standing.{IsAt, Goes};
 ghost use Rattle.mip_engine.specs.Openings.{with_hosts, CanShare};
 
+use crate::claimer::Claimer;
 use crate::engine::Engine;
 use crate::hosts::hosts_in;
 use mip_roles::{Host, Node};
@@ -121,7 +122,10 @@ impl Engine {
         let Some(link) = self.link_of(address) else {
             unreachable!()
         };
-        self.hold(Holder::Node(node), link, address)
+        let by = Claimer {
+            who: Holder::Node(node),
+        };
+        self.hold(by, link, address)
     }
 
     /// A node more, with its address; the first agent of a link has the home-agents anycast address there, too.

@@ -1,12 +1,9 @@
 //! A mobile with its clock and its wire, wherever it stands.
 
-ghost use Rattle.std.specs.Prelude.{◌≡◌, ◌≤◌, [], None, Some, IfOk, IfErr, OnOk, IsTrue, IsFalse, length, option_copied, option_map, slice_get};
+ghost use Rattle.std.specs.Prelude.{◌≡◌, ◌≤◌, [], None, Some, IfOk, IfErr, OnOk, IsTrue, option_copied, option_map, slice_get};
 ghost use Rattle.mip_words.specs.Addresses.{is_routable};
-ghost use Rattle.mip_ipv6.specs.Packet.{names_no_body};
-ghost use Rattle.mip_rules_correspondent.specs.Rules.{is_data};
 ghost use Rattle.mip_bcache.specs.Seen.{rows_at};
 ghost use Rattle.mip_bulist.specs.Timers.{first_due};
-ghost use Rattle.mip_ipv6.specs.Tunnel.{hop_of};
 ghost use Rattle.mip_outside.specs.Moments.{moments_after};
 ghost use Rattle.mip_rules_mobile.specs.Calls as calls;
 ghost use Rattle.mip_rules_mobile.specs.Calls.{Call};
@@ -21,7 +18,7 @@ ghost use Rattle.std.specs.Borrow.{Lends, sem};
 
 use mip_bcache::Row;
 use mip_entries::Answers;
-use mip_mobile_calls::CallContext;
+use mip_mobile_calls::{CallContext, Data, OriginalPacketRef};
 use mip_nonce::Secrets;
 use mip_outside::{Clock, Wire};
 use mip_rules_mobile::Attachment;
@@ -204,38 +201,25 @@ impl<C: Clock + Drop, W: Wire + Drop> Machine<C, W> {
         &mut self,
         alloc: Global,
         to: Address,
-        proto: u8,
-        payload: &[u8],
+        data: &Data<'_>,
     ) -> Result<Answers, StationFault>
-        requires data { IsTrue (is_data proto) }
-        requires proto { IsFalse (names_no_body proto) }
-        requires short { length payload.now ≤ 512 }
-        ensures performs { Performs C.Clock W.Wire self.old self.new (calls.Send to proto payload.now) result }
+        ensures performs { Performs C.Clock W.Wire self.old self.new (calls.Send to data.now.proto data.now.payload.now) result }
     {
         if let Some(fault) = self.fault {
             return Err(fault);
         }
-        let done = self.send_context(alloc, to, proto, payload);
+        let done = self.send_context(alloc, to, data);
         self.finish(alloc, done)
     }
 
     #[tactic(auto, unfolding(mip_rules_mobile::specs::Doing::does))]
-    fn send_context(
-        &mut self,
-        alloc: Global,
-        to: Address,
-        proto: u8,
-        payload: &[u8],
-    ) -> Result<(), Memory>
-        requires data { IsTrue (is_data proto) }
-        requires proto { IsFalse (names_no_body proto) }
-        requires short { length payload.now ≤ 512 }
-        ensures shows { OnOk result (Shows self.new.context (transition_in C.Clock self.old self.new (calls.Send to proto payload.now))) }
+    fn send_context(&mut self, alloc: Global, to: Address, data: &Data<'_>) -> Result<(), Memory>
+        ensures shows { OnOk result (Shows self.new.context (transition_in C.Clock self.old self.new (calls.Send to data.now.proto data.now.payload.now))) }
         ensures rest { (self.new.wire ≡ self.old.wire) × (self.new.fault ≡ self.old.fault) }
         ensures read { C.ahead self.new.clock ≡ option_map moments_after (C.ahead self.old.clock) }
     {
         self.begin(alloc)?;
-        mip_mobile_calls::send(alloc, &mut self.context, to, proto, payload)
+        mip_mobile_calls::send(alloc, &mut self.context, to, data)
     }
 
     /// Asks for a Binding Refresh Request to a home.
@@ -302,11 +286,12 @@ impl<C: Clock + Drop, W: Wire + Drop> Machine<C, W> {
     }
 
     /// Sends a packet from its home address.
-    pub fn tunnel(&mut self, alloc: Global, inner: &[u8]) -> Result<Answers, StationFault>
-        requires long { 40 ≤ length inner.now }
-        requires hop { 2 ≤ hop_of inner.now }
-        requires fits { length inner.now ≤ 65535 }
-        ensures performs { Performs C.Clock W.Wire self.old self.new (calls.Tunnel inner.now) result }
+    pub fn tunnel(
+        &mut self,
+        alloc: Global,
+        inner: &OriginalPacketRef<'_>,
+    ) -> Result<Answers, StationFault>
+        ensures performs { Performs C.Clock W.Wire self.old self.new (calls.Tunnel inner.now.bytes.now) result }
     {
         if let Some(fault) = self.fault {
             return Err(fault);
@@ -316,11 +301,8 @@ impl<C: Clock + Drop, W: Wire + Drop> Machine<C, W> {
     }
 
     #[tactic(auto, unfolding(mip_rules_mobile::specs::Doing::does))]
-    fn tunnel_context(&mut self, alloc: Global, inner: &[u8]) -> Result<(), Memory>
-        requires long { 40 ≤ length inner.now }
-        requires hop { 2 ≤ hop_of inner.now }
-        requires fits { length inner.now ≤ 65535 }
-        ensures shows { OnOk result (Shows self.new.context (transition_in C.Clock self.old self.new (calls.Tunnel inner.now))) }
+    fn tunnel_context(&mut self, alloc: Global, inner: &OriginalPacketRef<'_>) -> Result<(), Memory>
+        ensures shows { OnOk result (Shows self.new.context (transition_in C.Clock self.old self.new (calls.Tunnel inner.now.bytes.now))) }
         ensures rest { (self.new.wire ≡ self.old.wire) × (self.new.fault ≡ self.old.fault) }
         ensures read { C.ahead self.new.clock ≡ option_map moments_after (C.ahead self.old.clock) }
     {

@@ -21,6 +21,7 @@ use crate::state::{AtHome, Away, Detached};
 use crate::station::Station;
 use mip_bcache::Row;
 use mip_entries::Answers;
+use mip_mobile_calls::Data;
 use mip_nonce::Secrets;
 use mip_outside::{Clock, Place, Wire};
 use mip_rules_mobile::Attachment;
@@ -213,7 +214,7 @@ impl<C: Clock + Drop, W: Wire + Drop> Mobile<C, W> {
         ensures typed { IsTyped result.0 }
     {
         let mut machine = self.into_machine();
-        let answers = machine.send(alloc, to, proto, payload);
+        let answers = machine.send(alloc, to, &Data { proto, payload });
         (Mobile::of(machine), answers)
     }
 

@@ -6,6 +6,7 @@ ghost use Rattle.mip_mobile.specs.Performing.{Performs};
 use crate::machine::Machine;
 use crate::state::{Away, State};
 use mip_entries::Answers;
+use mip_mobile_calls::OriginalPacketRef;
 use mip_outside::{Clock, Wire};
 use mip_transmission::StationFault;
 use std::alloc::Global;
@@ -27,6 +28,7 @@ impl<C: Clock + Drop, W: Wire + Drop> Station<Away, C, W> {
         ensures performs { Performs C.Clock W.Wire self.old.machine self.new.machine (calls.Tunnel inner.now) result }
         ensures state { self.new.state ≡ self.old.state }
     {
-        self.machine.tunnel(alloc, inner)
+        let inner = OriginalPacketRef { bytes: inner };
+        self.machine.tunnel(alloc, &inner)
     }
 }

@@ -1,13 +1,14 @@
 //! What a mobile does about an acknowledgement of its agent (RFC 6275 sections 11.7.3 and 11.5.5).
 
-ghost use Rattle.std.specs.Prelude.{◌≡◌, ◌<◌, ◌^◌, IfSome, OnOk};
+ghost use Rattle.std.specs.Prelude.{◌≡◌, OnOk, option_map};
 ghost use Rattle.mip_reception.specs.Statuses.{accepts_it};
-ghost use Rattle.mip_rules_mobile.specs.HomeRules.{is_answered_at, is_answer_to, answered_by, home_answered, is_registered, is_unregistered, is_accepted, takes_home_ack};
+ghost use Rattle.mip_rules_mobile.specs.HomeRules.{is_answered_at, is_answer_to, home_answered, is_registered, is_unregistered, is_accepted, takes_home_ack};
 ghost use Rattle.mip_rules_mobile.specs.Transitions.{Transition};
 ghost use Rattle.mip_mobile_registration.specs.Seen.{Shows};
 
 use crate::ack::Ack;
 use crate::handed::Handed;
+use crate::sent_update::SentUpdate;
 use mip_bulist::{HomeTimer, Work};
 use mip_mobile_registration::call_context::CallContext;
 use mip_mobile_registration::{catch_up, turn_away};
@@ -47,34 +48,23 @@ fn is_answer_to(
         && is_answered_at(standing, update)
 }
 
-fn answered_by(
-    standing: Attachment,
-    handed: &Handed,
-    source: Address,
-    ack: &Ack,
-    latest: Option<HomeUpdate>,
-) -> Option<HomeUpdate>
-    requires { IfSome latest (λ u. u.at.0 < 2 ^ 62) }
-    ensures value { result ≡ answered_by standing handed.now.tunnelled handed.now.shield source ack.now.status ack.now.sequence latest }
-    ensures early { IfSome result (λ u. u.at.0 < 2 ^ 62) }
-{
-    match latest {
-        Some(update) if is_answer_to(standing, handed, source, ack, &update) => Some(update),
-        _ => None,
-    }
-}
-
 /// The home registration or deregistration that an acknowledgement answers.
 pub fn answered(
     context: &CallContext,
     handed: &Handed,
     source: Address,
     ack: &Ack,
-) -> Option<HomeUpdate>
-    ensures value { result ≡ home_answered context.now.known handed.now.tunnelled handed.now.shield source ack.now.status ack.now.sequence }
-    ensures early { IfSome result (λ u. u.at.0 < 2 ^ 62) }
+) -> Option<SentUpdate>
+    ensures { option_map (λ u. u.update) result
+        ≡ home_answered context.now.known handed.now.tunnelled handed.now.shield source ack.now.status ack.now.sequence }
 {
-    answered_by(context.standing(), handed, source, ack, context.latest())
+    let standing = context.standing();
+    match context.latest() {
+        Some(update) if is_answer_to(standing, handed, source, ack, &update) => {
+            Some(SentUpdate { update })
+        }
+        _ => None,
+    }
 }
 
 /// The registration: its end is counted from the sending, and so is its renewal.
@@ -82,12 +72,12 @@ pub fn answered(
 fn registered(
     alloc: Global,
     context: &mut CallContext,
-    update: &HomeUpdate,
+    sent: &SentUpdate,
     lifetime: u16,
 ) -> Result<(), Memory>
-    requires { update.now.at.0 < 2 ^ 62 }
-    ensures { (t : Transition) → Shows context.old t → OnOk result (Shows context.new (is_registered update.now lifetime t)) }
+    ensures { (t : Transition) → Shows context.old t → OnOk result (Shows context.new (is_registered sent.now.update lifetime t)) }
 {
+    let update = sent.update;
     context.stop(Work::Home(HomeTimer::Resend));
     let end = Moment(update.at.0 + LIFETIME_UNIT * lifetime as u64);
     let renew = Moment(update.at.0 + REFRESH_UNIT * lifetime as u64);
@@ -108,20 +98,19 @@ fn unregistered(alloc: Global, context: &mut CallContext, update: &HomeUpdate) -
 fn accepted(
     alloc: Global,
     context: &mut CallContext,
-    update: &HomeUpdate,
+    sent: &SentUpdate,
     status: u8,
     lifetime: u16,
 ) -> Result<(), Memory>
-    requires { update.now.at.0 < 2 ^ 62 }
-    ensures { (t : Transition) → Shows context.old t → OnOk result (Shows context.new (is_accepted update.now status lifetime t)) }
+    ensures { (t : Transition) → Shows context.old t → OnOk result (Shows context.new (is_accepted sent.now.update status lifetime t)) }
 {
-    if update.deletes {
-        return unregistered(alloc, context, update);
+    if sent.update.deletes {
+        return unregistered(alloc, context, &sent.update);
     }
     if lifetime == 0 {
         return turn_away(alloc, context, status);
     }
-    registered(alloc, context, update, lifetime)
+    registered(alloc, context, sent, lifetime)
 }
 
 fn accepts(status: u8) -> bool
@@ -135,18 +124,17 @@ fn accepts(status: u8) -> bool
 pub fn take_home_ack(
     alloc: Global,
     context: &mut CallContext,
-    update: &HomeUpdate,
+    sent: &SentUpdate,
     ack: &Ack,
 ) -> Result<(), Memory>
-    requires { update.now.at.0 < 2 ^ 62 }
     ensures { (t : Transition) → Shows context.old t
-        → OnOk result (Shows context.new (takes_home_ack update.now ack.now.status ack.now.sequence ack.now.lifetime t)) }
+        → OnOk result (Shows context.new (takes_home_ack sent.now.update ack.now.status ack.now.sequence ack.now.lifetime t)) }
 {
     if accepts(ack.status) {
-        return accepted(alloc, context, update, ack.status, ack.lifetime);
+        return accepted(alloc, context, sent, ack.status, ack.lifetime);
     }
     if ack.status == SEQUENCE_OUT_OF_WINDOW {
-        return catch_up(alloc, context, *update, ack.sequence);
+        return catch_up(alloc, context, sent.update, ack.sequence);
     }
     turn_away(alloc, context, ack.status)
 }

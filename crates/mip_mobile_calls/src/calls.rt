@@ -1,20 +1,19 @@
 //! One rule for each call.
 
-ghost use Rattle.std.specs.Prelude.{◌≤◌, OnOk, IsTrue, IsFalse, length};
-ghost use Rattle.mip_ipv6.specs.Packet.{names_no_body};
-ghost use Rattle.mip_rules_correspondent.specs.Rules.{is_data};
+ghost use Rattle.std.specs.Prelude.{OnOk};
 ghost use Rattle.mip_rules_mobile.specs.Calls as calls;
-ghost use Rattle.mip_ipv6.specs.Tunnel.{hop_of};
 ghost use Rattle.mip_rules_mobile.specs.Doing.{handles};
 ghost use Rattle.mip_rules_mobile.specs.Transitions.{Transition};
 ghost use Rattle.mip_mobile_registration.specs.Seen.{Shows};
 
-use crate::handed::Handed;
+use crate::arrival::Arrival;
 use crate::moving::{self, detach};
 use crate::receiving::take_bytes;
 use crate::ringing::ring_all;
 use crate::sending::transmit;
-use mip_mobile_registration::call_context::{CallContext, ask_refresh, go_out, is_mobility};
+use mip_mobile_registration::call_context::{
+    CallContext, Data, OriginalPacket, OriginalPacketRef, ask_refresh, go_out, is_mobility,
+};
 use mip_mobile_registration::solicit;
 use mip_nonce::Secrets;
 use mip_outside::Claim;
@@ -52,12 +51,7 @@ pub fn take(
 ) -> Result<(), Memory>
     ensures { (t : Transition) → Shows context.old t → OnOk result (Shows context.new (handles (calls.Take number shield packet.now) t)) }
 {
-    let handed = Handed {
-        number,
-        shield,
-        tunnelled: false,
-    };
-    take_bytes(alloc, context, &handed, packet)
+    take_bytes(alloc, context, &Arrival { number, shield }, packet)
 }
 
 /// Time goes on, and due work is done.
@@ -72,15 +66,11 @@ pub fn send(
     alloc: Global,
     context: &mut CallContext,
     to: Address,
-    proto: u8,
-    payload: &[u8],
+    data: &Data<'_>,
 ) -> Result<(), Memory>
-    requires data { IsTrue (is_data proto) }
-    requires proto { IsFalse (names_no_body proto) }
-    requires short { length payload.now ≤ 512 }
-    ensures { (t : Transition) → Shows context.old t → OnOk result (Shows context.new (handles (calls.Send to proto payload.now) t)) }
+    ensures { (t : Transition) → Shows context.old t → OnOk result (Shows context.new (handles (calls.Send to data.now.proto data.now.payload.now) t)) }
 {
-    transmit(alloc, context, to, proto, payload)
+    transmit(alloc, context, to, data)
 }
 
 /// The mobile is asked for a Binding Refresh Request to a home.
@@ -104,14 +94,16 @@ pub fn restart(alloc: Global, context: &mut CallContext, secrets: Secrets) -> Re
     moving::restart(alloc, context, secrets)
 }
 
-/// The mobile is asked to send a packet from its home address while it is away. It is one that a tunnel takes.
-pub fn tunnel(alloc: Global, context: &mut CallContext, inner: &[u8]) -> Result<(), Memory>
-    requires long { 40 ≤ length inner.now }
-    requires hop { 2 ≤ hop_of inner.now }
-    requires fits { length inner.now ≤ 65535 }
-    ensures { (t : Transition) → Shows context.old t → OnOk result (Shows context.new (handles (calls.Tunnel inner.now) t)) }
+/// The mobile is asked to send a packet from its home address while it is away.
+pub fn tunnel(
+    alloc: Global,
+    context: &mut CallContext,
+    inner: &OriginalPacketRef<'_>,
+) -> Result<(), Memory>
+    ensures { (t : Transition) → Shows context.old t → OnOk result (Shows context.new (handles (calls.Tunnel inner.now.bytes.now) t)) }
 {
-    let signals = is_mobility(inner);
-    let packet = Bytes::copy(alloc, inner)?;
+    let signals = is_mobility(inner.bytes);
+    let bytes = Bytes::copy(alloc, inner.bytes)?;
+    let packet = OriginalPacket { bytes };
     go_out(alloc, context, signals, packet)
 }

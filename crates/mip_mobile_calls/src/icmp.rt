@@ -1,6 +1,6 @@
 //! What a mobile does about ICMPv6 messages (RFC 6275 sections 11.4.1 and 11.4.3).
 
-ghost use Rattle.std.specs.Prelude.{◌≡◌, ◌≤◌, ◌∷◌, List, length, OnOk, IfOk};
+ghost use Rattle.std.specs.Prelude.{◌≡◌, ◌∷◌, List, OnOk, IfOk};
 ghost use Rattle.mip_ipv6.specs.Packet.{packet as tree};
 ghost use Rattle.mip_words.specs.declared.address.Address.{Address};
 ghost use Rattle.mip_rules_mobile.specs.declared.attachment.Attachment.TheVariants.{Away};
@@ -8,9 +8,9 @@ ghost use Rattle.mip_rules_mobile.specs.IcmpRules.{agents_named, finds, takes_di
 ghost use Rattle.mip_rules_mobile.specs.Transitions.{Transition};
 ghost use Rattle.mip_mobile_registration.specs.Seen.{Shows};
 
+use crate::checked_packet::CheckedPacket;
 use mip_bulist::{HomeTimer, Work};
 use mip_icmp::{Icmp, read_icmp};
-use mip_ipv6::PacketRef;
 use mip_mobile_registration::call_context::{Agents, CallContext};
 use mip_mobile_registration::{register, take_prefix_reply};
 use mip_rules_mobile::Attachment;
@@ -103,11 +103,11 @@ pub fn take_icmp(
     context: &mut CallContext,
     number: u64,
     shield: Option<Shield>,
-    packet: &PacketRef<'_>,
+    checked: &CheckedPacket<'_>,
 ) -> Result<(), Memory>
-    requires { length packet.now.body.now ≤ 65535 }
-    ensures { (t : Transition) → Shows context.old t → OnOk result (Shows context.new (takes_icmp number shield (tree packet.now) t)) }
+    ensures { (t : Transition) → Shows context.old t → OnOk result (Shows context.new (takes_icmp number shield (tree checked.now.packet) t)) }
 {
+    let packet = checked.packet;
     let source = packet.head.sender();
     let destination = packet.head.receiver();
     match read_icmp(source, destination, packet.body) {

@@ -1,20 +1,21 @@
 //! What a mobile does about a packet that it is handed (RFC 6275 sections 9.2, 9.3.1 and 11.3.3).
 
-ghost use Rattle.std.specs.Prelude.{◌≡◌, ◌≤◌, ◌<◌, ◌-◌, ◌^◌, List, ℕ, length, OnOk, IsTrue, false, Ok, option_map};
-ghost use Rattle.mip_ipv6.specs.Packet.{packet as tree, is_routable_if_any};
+ghost use Rattle.std.specs.Prelude.{◌≡◌, List, ℕ, OnOk, Ok, option_map};
+ghost use Rattle.mip_ipv6.specs.Packet.{packet as tree};
 ghost use Rattle.mip_mobhdr.specs.Said.{said};
-ghost use Rattle.mip_packets.specs.Says.{message_in};
 ghost use Rattle.mip_reception.specs.Checks.{checked};
 ghost use Rattle.mip_rules_correspondent.specs.Rules.{place_in};
 ghost use Rattle.mip_rules_mobile.specs.ReceivingRules.{after_checks, is_address_of, is_routed, takes_route, standing_of, takes};
 ghost use Rattle.mip_rules_mobile.specs.Transitions.{Transition};
 ghost use Rattle.mip_mobile_registration.specs.Seen.{Shows};
 
+use crate::arrival::Arrival;
+use crate::arrived_packet::ArrivedPacket;
+use crate::checked_packet::CheckedPacket;
 use crate::handed::Handed;
 use crate::roles::take_role;
 use crate::tunnelled::{open, refuse};
-use mip_ipv6::{Head, PacketRef, read_packet};
-use mip_mobhdr::Message;
+use mip_ipv6::{Head, read_packet};
 use mip_mobile_registration::call_context::CallContext;
 use mip_reception::{AddressMatch, check, packet_why};
 use mip_rules_mobile::Attachment;
@@ -70,51 +71,49 @@ fn standing_of(context: &CallContext, head: &Head) -> AddressMatch
 fn take_passed(
     alloc: Global,
     context: &mut CallContext,
-    handed: &Handed,
-    packet: &PacketRef<'_>,
-    message: &Option<Message<'_>>,
+    arrival: &Arrival,
+    checked: &CheckedPacket<'_>,
 ) -> Result<(), Memory>
-    requires plain { IsTrue (is_routable_if_any packet.now.head.home) }
-    requires short { length packet.now.body.now ≤ 65535 }
-    requires read { message_in (tree packet.now) ≡ option_map said message.now }
-    requires straight { handed.now.tunnelled ≡ false }
-    ensures { (bytes : List ℕ) (t : Transition) → Shows context.old t
-        → OnOk result (Shows context.new (after_checks handed.now.number handed.now.shield bytes (tree packet.now) (Ok (option_map said message.now)) t)) }
+    ensures { (bytes : List ℕ) (t : Transition) → Shows context.old t → OnOk result (Shows context.new
+        (after_checks arrival.now.number arrival.now.shield bytes (tree checked.now.packet) (Ok (option_map said checked.now.message)) t)) }
 {
-    if packet.head.proto == IPV6 {
-        open(alloc, context, handed, packet)
-    } else {
-        take_role(alloc, context, handed, packet, message)
+    if checked.packet.head.proto == IPV6 {
+        return open(alloc, context, arrival, checked);
     }
+    let handed = Handed {
+        number: arrival.number,
+        shield: arrival.shield,
+        tunnelled: false,
+    };
+    take_role(alloc, context, &handed, checked)
 }
 
 /// A packet that was read is checked.
 fn take_packet(
     alloc: Global,
     context: &mut CallContext,
-    handed: &Handed,
-    bytes: &[u8],
-    packet: &PacketRef<'_>,
+    arrival: &Arrival,
+    arrived: &ArrivedPacket<'_>,
 ) -> Result<(), Memory>
-    requires plain { IsTrue (is_routable_if_any packet.now.head.home) }
-    requires short { length packet.now.body.now ≤ 65535 }
-    requires placed { packet.now.place ≡ place_in bytes.now (tree packet.now) }
-    requires near { packet.now.place < 2 ^ 32 - 1 }
-    requires straight { handed.now.tunnelled ≡ false }
     ensures { (t : Transition) → Shows context.old t → OnOk result (Shows context.new
-        (after_checks handed.now.number handed.now.shield bytes.now (tree packet.now)
-        (checked (standing_of context.old.known context.old.moment packet.now.head) (place_in bytes.now (tree packet.now)) (tree packet.now)) t)) }
+        (after_checks arrival.now.number arrival.now.shield arrived.now.bytes.now (tree arrived.now.packet)
+        (checked (standing_of context.old.known context.old.moment arrived.now.packet.head)
+        (place_in arrived.now.bytes.now (tree arrived.now.packet)) (tree arrived.now.packet)) t)) }
 {
-    match check(packet, standing_of(context, &packet.head)) {
+    let packet = arrived.packet;
+    match check(&packet, standing_of(context, &packet.head)) {
         Err(refusal) => refuse(
             alloc,
             context,
-            handed.number,
-            bytes,
+            arrival.number,
+            arrived.bytes,
             packet.head.source,
             refusal,
         ),
-        Ok(message) => take_passed(alloc, context, handed, packet, &message),
+        Ok(message) => {
+            let checked = CheckedPacket { packet, message };
+            take_passed(alloc, context, arrival, &checked)
+        }
     }
 }
 
@@ -122,14 +121,16 @@ fn take_packet(
 pub fn take_bytes(
     alloc: Global,
     context: &mut CallContext,
-    handed: &Handed,
+    arrival: &Arrival,
     bytes: &[u8],
 ) -> Result<(), Memory>
-    requires straight { handed.now.tunnelled ≡ false }
-    ensures { (t : Transition) → Shows context.old t → OnOk result (Shows context.new (takes handed.now.number handed.now.shield bytes.now t)) }
+    ensures { (t : Transition) → Shows context.old t → OnOk result (Shows context.new (takes arrival.now.number arrival.now.shield bytes.now t)) }
 {
     match read_packet(bytes) {
-        Err(fault) => context.drop_packet(handed.number, packet_why(fault)),
-        Ok(packet) => take_packet(alloc, context, handed, bytes, &packet),
+        Err(fault) => context.drop_packet(arrival.number, packet_why(fault)),
+        Ok(packet) => {
+            let arrived = ArrivedPacket { bytes, packet };
+            take_packet(alloc, context, arrival, &arrived)
+        }
     }
 }

@@ -74,7 +74,7 @@ fn resend(alloc: Global, context: &mut CallContext) -> Result<(), Memory>
     ensures { (t : Transition) → Shows context.old t → OnOk result (Shows context.new (resends_home (doubled t.known.wait) t)) }
 {
     let wait = doubled(context.wait());
-    resend_home(alloc, context, wait)
+    resend_home(alloc, context, wait as u32)
 }
 
 /// The registration is renewed, before it ends.

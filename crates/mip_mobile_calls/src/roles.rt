@@ -1,23 +1,22 @@
 //! What a mobile does about a packet that passed the checks (RFC 6275 sections 11.3.3, 11.3.6, 11.6.2, 11.7.3 and 11.7.4).
 
-ghost use Rattle.std.specs.Prelude.{◌≡◌, ◌≤◌, length, OnOk, IsTrue, Some, option_map};
-ghost use Rattle.mip_ipv6.specs.Packet.{packet as tree, is_routable_if_any};
+ghost use Rattle.std.specs.Prelude.{◌≡◌, OnOk, Some, option_map};
+ghost use Rattle.mip_ipv6.specs.Packet.{packet as tree};
 ghost use Rattle.mip_mobhdr.specs.Said.{said};
 ghost use Rattle.mip_mobhdr.specs.OptionValues.{values};
-ghost use Rattle.mip_packets.specs.Says.{message_in};
-ghost use Rattle.mip_rules_correspondent.specs.Rules.{is_for_part};
 ghost use Rattle.mip_rules_mobile.specs.ReceivingRules.{then_meets, takes_for_part, takes_ack, by_proto, by_message, by_role};
 ghost use Rattle.mip_rules_mobile.specs.Transitions.{Transition};
 ghost use Rattle.mip_mobile_registration.specs.Seen.{Shows};
 
 use crate::ack::Ack;
 use crate::acknowledged::{answered, take_home_ack};
+use crate::checked_packet::CheckedPacket;
 use crate::handed::Handed;
 use crate::icmp::take_icmp;
 use mip_ipv6::PacketRef;
 use mip_mobhdr::{Message, Options};
 use mip_mobile_registration::call_context::correspondent::is_for_part;
-use mip_mobile_registration::call_context::{CallContext, Heard, ask_part};
+use mip_mobile_registration::call_context::{CallContext, Heard, PartPacket, ask_part};
 use mip_mobile_routability::{
     PeerAck, meet, take_ack_of, take_careof_test, take_error, take_home_test, take_refresh,
 };
@@ -47,17 +46,15 @@ fn take_for_part(
     alloc: Global,
     context: &mut CallContext,
     handed: &Handed,
-    packet: &PacketRef<'_>,
+    part: &PartPacket<'_>,
     message: &Option<Message<'_>>,
 ) -> Result<(), Memory>
-    requires kind { IsTrue (is_for_part packet.now.head.proto (message_in (tree packet.now))) }
-    requires plain { IsTrue (is_routable_if_any packet.now.head.home) }
     ensures { (t : Transition) → Shows context.old t
-        → OnOk result (Shows context.new (takes_for_part handed.now.number handed.now.tunnelled (tree packet.now) (option_map said message.now) t)) }
+        → OnOk result (Shows context.new (takes_for_part handed.now.number handed.now.tunnelled (tree part.now.packet) (option_map said message.now) t)) }
 {
-    ask_part(alloc, context, handed.number, packet)?;
+    ask_part(alloc, context, handed.number, part)?;
     let meets = handed.tunnelled && message.is_none();
-    then_meet(alloc, context, meets, packet)
+    then_meet(alloc, context, meets, &part.packet)
 }
 
 /// What the correspondent part does not take: ICMPv6, a packet with no next header, and what is left, which has no taker.
@@ -65,14 +62,14 @@ fn take_other(
     alloc: Global,
     context: &mut CallContext,
     handed: &Handed,
-    packet: &PacketRef<'_>,
+    checked: &CheckedPacket<'_>,
 ) -> Result<(), Memory>
-    requires { length packet.now.body.now ≤ 65535 }
-    ensures { (t : Transition) → Shows context.old t → OnOk result (Shows context.new (by_proto handed.now.number handed.now.shield (tree packet.now) t)) }
+    ensures { (t : Transition) → Shows context.old t
+        → OnOk result (Shows context.new (by_proto handed.now.number handed.now.shield (tree checked.now.packet) t)) }
 {
-    let proto = packet.head.proto;
+    let proto = checked.packet.head.proto;
     if proto == ICMPV6 {
-        return take_icmp(alloc, context, handed.number, handed.shield, packet);
+        return take_icmp(alloc, context, handed.number, handed.shield, checked);
     }
     if proto == NO_NEXT_HEADER {
         return context.drop_packet(handed.number, Why::NoNext);
@@ -94,7 +91,7 @@ fn take_ack(
 {
     let source = packet.head.sender();
     match answered(context, handed, source, ack) {
-        Some(update) => take_home_ack(alloc, context, &update, ack),
+        Some(sent) => take_home_ack(alloc, context, &sent, ack),
         None => {
             let of_peer = PeerAck {
                 status: ack.status,
@@ -185,20 +182,18 @@ pub fn take_role(
     alloc: Global,
     context: &mut CallContext,
     handed: &Handed,
-    packet: &PacketRef<'_>,
-    message: &Option<Message<'_>>,
+    checked: &CheckedPacket<'_>,
 ) -> Result<(), Memory>
-    requires plain { IsTrue (is_routable_if_any packet.now.head.home) }
-    requires short { length packet.now.body.now ≤ 65535 }
-    requires read { message_in (tree packet.now) ≡ option_map said message.now }
-    ensures { (t : Transition) → Shows context.old t
-        → OnOk result (Shows context.new (by_role handed.now.number handed.now.tunnelled handed.now.shield (tree packet.now) (option_map said message.now) t)) }
+    ensures { (t : Transition) → Shows context.old t → OnOk result (Shows context.new
+        (by_role handed.now.number handed.now.tunnelled handed.now.shield (tree checked.now.packet) (option_map said checked.now.message) t)) }
 {
-    if is_for_part(packet.head.proto, message) {
-        return take_for_part(alloc, context, handed, packet, message);
+    let packet = checked.packet;
+    if is_for_part(packet.head.proto, &checked.message) {
+        let part = PartPacket { packet };
+        return take_for_part(alloc, context, handed, &part, &checked.message);
     }
-    match message {
-        Some(message) => take_message(alloc, context, handed, packet, message),
-        None => take_other(alloc, context, handed, packet),
+    match &checked.message {
+        Some(message) => take_message(alloc, context, handed, &packet, message),
+        None => take_other(alloc, context, handed, checked),
     }
 }

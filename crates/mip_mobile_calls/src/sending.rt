@@ -1,9 +1,8 @@
 //! Data that a mobile is asked to send (RFC 6275 section 11.3.1).
 
-ghost use Rattle.std.specs.Prelude.{◌≡◌, ◌≤◌, length, OnOk, IfSome, IsTrue, IsFalse, Some};
+ghost use Rattle.std.specs.Prelude.{◌≡◌, OnOk, IfSome, IsTrue, IsFalse, Some};
 ghost use Rattle.mip_words.specs.Addresses.{is_routable};
 ghost use Rattle.mip_ipv6.specs.Packet.{is_plain, names_no_body};
-ghost use Rattle.mip_rules_correspondent.specs.Rules.{is_data};
 ghost use Rattle.mip_rules_mobile.specs.declared.attachment.Attachment.TheVariants.{Away};
 ghost use Rattle.mip_rules_mobile.specs.Sendings.{data_head};
 ghost use Rattle.mip_rules_mobile.specs.Doing.{transmits_from, transmits};
@@ -11,7 +10,7 @@ ghost use Rattle.mip_rules_mobile.specs.Transitions.{Transition};
 ghost use Rattle.mip_mobile_registration.specs.Seen.{Shows};
 
 use mip_ipv6::Head;
-use mip_mobile_registration::call_context::{CallContext, ask_data};
+use mip_mobile_registration::call_context::{CallContext, Data, ask_data};
 use mip_packets::{node_head, write_data_packet};
 use mip_rules_mobile::Attachment;
 use mip_words::{Address, Memory};
@@ -39,16 +38,14 @@ fn send_straight(
     careof: Address,
     row: u8,
     to: Address,
-    proto: u8,
-    payload: &[u8],
+    data: &Data<'_>,
 ) -> Result<(), Memory>
-    requires proto { IsFalse (names_no_body proto) }
-    requires short { length payload.now ≤ 512 }
-    ensures { (t : Transition) → Shows context.old t → OnOk result (Shows context.new (transmits_from (Away careof) (Some row) to proto payload.now t)) }
+    ensures { (t : Transition) → Shows context.old t
+        → OnOk result (Shows context.new (transmits_from (Away careof) (Some row) to data.now.proto data.now.payload.now t)) }
 {
     let held = context.held_of(to);
-    let head = data_head(context.home(), careof, to, proto, held);
-    let packet = write_data_packet(alloc, &head, payload)?;
+    let head = data_head(context.home(), careof, to, data.proto, held);
+    let packet = write_data_packet(alloc, &head, data.payload)?;
     context.put(None, packet)
 }
 
@@ -58,19 +55,15 @@ fn transmit_from(
     standing: Attachment,
     row: Option<u8>,
     to: Address,
-    proto: u8,
-    payload: &[u8],
+    data: &Data<'_>,
 ) -> Result<(), Memory>
-    requires data { IsTrue (is_data proto) }
-    requires proto { IsFalse (names_no_body proto) }
-    requires short { length payload.now ≤ 512 }
-    ensures { (t : Transition) → Shows context.old t → OnOk result (Shows context.new (transmits_from standing row to proto payload.now t)) }
+    ensures { (t : Transition) → Shows context.old t → OnOk result (Shows context.new (transmits_from standing row to data.now.proto data.now.payload.now t)) }
 {
     match (standing, row) {
         (Attachment::Away { careof }, Some(row)) => {
-            send_straight(alloc, context, careof, row, to, proto, payload)
+            send_straight(alloc, context, careof, row, to, data)
         }
-        _ => ask_data(alloc, context, to, proto, payload),
+        _ => ask_data(alloc, context, to, data),
     }
 }
 
@@ -79,15 +72,11 @@ pub fn transmit(
     alloc: Global,
     context: &mut CallContext,
     to: Address,
-    proto: u8,
-    payload: &[u8],
+    data: &Data<'_>,
 ) -> Result<(), Memory>
-    requires data { IsTrue (is_data proto) }
-    requires proto { IsFalse (names_no_body proto) }
-    requires short { length payload.now ≤ 512 }
-    ensures { (t : Transition) → Shows context.old t → OnOk result (Shows context.new (transmits to proto payload.now t)) }
+    ensures { (t : Transition) → Shows context.old t → OnOk result (Shows context.new (transmits to data.now.proto data.now.payload.now t)) }
 {
     let standing = context.standing();
     let row = context.bound_row_of(to);
-    transmit_from(alloc, context, standing, row, to, proto, payload)
+    transmit_from(alloc, context, standing, row, to, data)
 }

@@ -1,7 +1,7 @@
 //! What a mobile does about a packet in a tunnel (RFC 6275 section 11.3.3).
 
-ghost use Rattle.std.specs.Prelude.{◌≡◌, ◌≤◌, ◌<◌, ◌-◌, ◌^◌, length, OnOk, IsTrue, Some, true};
-ghost use Rattle.mip_ipv6.specs.Packet.{packet as tree, is_routable_if_any};
+ghost use Rattle.std.specs.Prelude.{◌≡◌, OnOk, Some};
+ghost use Rattle.mip_ipv6.specs.Packet.{packet as tree};
 ghost use Rattle.mip_reception.specs.Checks.{checked};
 ghost use Rattle.mip_rules_correspondent.specs.Rules.{place_in};
 ghost use Rattle.mip_rules_mobile.specs.ReceivingRules.{refuses, after_inner_checks, inner_standing, takes_inner, opens_from, opens};
@@ -9,9 +9,12 @@ ghost use Rattle.mip_rules_mobile.specs.Transitions.{Transition};
 ghost use Rattle.mip_mobile_registration.specs.Seen.{Shows};
 ghost use Rattle.mip_mobile_calls.specs.Inners.{inner_why, entry_why};
 
+use crate::arrival::Arrival;
+use crate::arrived_packet::ArrivedPacket;
+use crate::checked_packet::CheckedPacket;
 use crate::handed::Handed;
 use crate::roles::take_role;
-use mip_ipv6::{ExitFault, Head, PacketRef, decapsulate};
+use mip_ipv6::{ExitFault, Head, decapsulate};
 use mip_mobile_registration::call_context::{CallContext, reply};
 use mip_reception::{AddressMatch, Refusal, check, packet_why};
 use mip_words::protocol::{IPV6, MOBILITY_HEADER};
@@ -49,29 +52,33 @@ fn inner_standing(context: &CallContext, head: &Head) -> AddressMatch
 fn take_checked(
     alloc: Global,
     context: &mut CallContext,
-    handed: &Handed,
-    bytes: &[u8],
-    packet: &PacketRef<'_>,
+    arrival: &Arrival,
+    inner: &ArrivedPacket<'_>,
 ) -> Result<(), Memory>
-    requires plain { IsTrue (is_routable_if_any packet.now.head.home) }
-    requires short { length packet.now.body.now ≤ 65535 }
-    requires placed { packet.now.place ≡ place_in bytes.now (tree packet.now) }
-    requires near { packet.now.place < 2 ^ 32 - 1 }
-    requires tunnelled { handed.now.tunnelled ≡ true }
     ensures { (t : Transition) → Shows context.old t → OnOk result (Shows context.new
-        (after_inner_checks handed.now.number handed.now.shield bytes.now (tree packet.now)
-        (checked (inner_standing context.old.known context.old.moment packet.now.head) (place_in bytes.now (tree packet.now)) (tree packet.now)) t)) }
+        (after_inner_checks arrival.now.number arrival.now.shield inner.now.bytes.now (tree inner.now.packet)
+        (checked (inner_standing context.old.known context.old.moment inner.now.packet.head)
+        (place_in inner.now.bytes.now (tree inner.now.packet)) (tree inner.now.packet)) t)) }
 {
-    match check(packet, inner_standing(context, &packet.head)) {
+    let packet = inner.packet;
+    match check(&packet, inner_standing(context, &packet.head)) {
         Err(refusal) => refuse(
             alloc,
             context,
-            handed.number,
-            bytes,
+            arrival.number,
+            inner.bytes,
             packet.head.source,
             refusal,
         ),
-        Ok(message) => take_role(alloc, context, handed, packet, &message),
+        Ok(message) => {
+            let handed = Handed {
+                number: arrival.number,
+                shield: arrival.shield,
+                tunnelled: true,
+            };
+            let checked = CheckedPacket { packet, message };
+            take_role(alloc, context, &handed, &checked)
+        }
     }
 }
 
@@ -97,21 +104,15 @@ fn inner_why(home: Address, shield: Option<Shield>, head: &Head) -> Option<Why>
 fn take_inner(
     alloc: Global,
     context: &mut CallContext,
-    handed: &Handed,
-    bytes: &[u8],
-    packet: &PacketRef<'_>,
+    arrival: &Arrival,
+    inner: &ArrivedPacket<'_>,
 ) -> Result<(), Memory>
-    requires plain { IsTrue (is_routable_if_any packet.now.head.home) }
-    requires short { length packet.now.body.now ≤ 65535 }
-    requires placed { packet.now.place ≡ place_in bytes.now (tree packet.now) }
-    requires near { packet.now.place < 2 ^ 32 - 1 }
-    requires tunnelled { handed.now.tunnelled ≡ true }
-    ensures { (t : Transition) → Shows context.old t
-        → OnOk result (Shows context.new (takes_inner handed.now.number handed.now.shield bytes.now (tree packet.now) t)) }
+    ensures { (t : Transition) → Shows context.old t → OnOk result (Shows context.new
+        (takes_inner arrival.now.number arrival.now.shield inner.now.bytes.now (tree inner.now.packet) t)) }
 {
-    match inner_why(context.home(), handed.shield, &packet.head) {
-        Some(why) => context.drop_packet(handed.number, why),
-        None => take_checked(alloc, context, handed, bytes, packet),
+    match inner_why(context.home(), arrival.shield, &inner.packet.head) {
+        Some(why) => context.drop_packet(arrival.number, why),
+        None => take_checked(alloc, context, arrival, inner),
     }
 }
 
@@ -129,23 +130,22 @@ fn entry_why(fault: ExitFault) -> Why
 fn open_from(
     alloc: Global,
     context: &mut CallContext,
-    handed: &Handed,
+    arrival: &Arrival,
     agent: Address,
-    packet: &PacketRef<'_>,
+    outer: &CheckedPacket<'_>,
 ) -> Result<(), Memory>
-    requires short { length packet.now.body.now ≤ 65535 }
     ensures { (t : Transition) → Shows context.old t
-        → OnOk result (Shows context.new (opens_from (Some agent) handed.now.number handed.now.shield (tree packet.now) t)) }
+        → OnOk result (Shows context.new (opens_from (Some agent) arrival.now.number arrival.now.shield (tree outer.now.packet) t)) }
 {
-    match decapsulate(packet, agent) {
-        Ok(inner) => {
-            let handed = Handed {
-                tunnelled: true,
-                ..*handed
+    match decapsulate(&outer.packet, agent) {
+        Ok(packet) => {
+            let inner = ArrivedPacket {
+                bytes: outer.packet.body,
+                packet,
             };
-            take_inner(alloc, context, &handed, packet.body, &inner)
+            take_inner(alloc, context, arrival, &inner)
         }
-        Err(fault) => context.drop_packet(handed.number, entry_why(fault)),
+        Err(fault) => context.drop_packet(arrival.number, entry_why(fault)),
     }
 }
 
@@ -153,14 +153,14 @@ fn open_from(
 pub fn open(
     alloc: Global,
     context: &mut CallContext,
-    handed: &Handed,
-    packet: &PacketRef<'_>,
+    arrival: &Arrival,
+    outer: &CheckedPacket<'_>,
 ) -> Result<(), Memory>
-    requires short { length packet.now.body.now ≤ 65535 }
-    ensures { (t : Transition) → Shows context.old t → OnOk result (Shows context.new (opens handed.now.number handed.now.shield (tree packet.now) t)) }
+    ensures { (t : Transition) → Shows context.old t
+        → OnOk result (Shows context.new (opens arrival.now.number arrival.now.shield (tree outer.now.packet) t)) }
 {
     match context.agent() {
-        Some(agent) => open_from(alloc, context, handed, agent, packet),
-        None => context.drop_packet(handed.number, Why::Entry),
+        Some(agent) => open_from(alloc, context, arrival, agent, outer),
+        None => context.drop_packet(arrival.number, Why::Entry),
     }
 }

@@ -1,7 +1,7 @@
 //! What goes out from the home address (RFC 6275 sections 11.3.1 and 11.3.2).
 
-ghost use Rattle.std.specs.Prelude.{◌≡◌, ◌≤◌, length, OnOk, IfOk, if◌then◌else◌, None};
-ghost use Rattle.mip_ipv6.specs.Tunnel.{hop_of, encapsulated};
+ghost use Rattle.std.specs.Prelude.{◌≡◌, OnOk, IfOk, if◌then◌else◌, None};
+ghost use Rattle.mip_ipv6.specs.Tunnel.{encapsulated};
 ghost use Rattle.mip_rules_mobile.specs.HomeQuestions.{home_of, registered_agent};
 ghost use Rattle.mip_rules_mobile.specs.Sendings.{Inner, AsksHome, ByTunnel, inner_packet, is_signal, shield_to};
 ghost use Rattle.mip_rules_mobile.specs.Steps.{Sends};
@@ -10,20 +10,23 @@ ghost use Rattle.mip_rules_mobile.specs.Transitions.{Transition, noted};
 ghost use Rattle.mip_mobile_context.specs.Seen.{Shows};
 
 use crate::call_context::CallContext;
+use crate::original_packet::OriginalPacket;
 use mip_ipv6::{EntryFault, encapsulate};
 use mip_packets::write_home_init;
 use mip_rules_mobile::Attachment;
 use mip_words::{Address, Bytes, Cookie, Memory, Shield, Why};
 use std::alloc::Global;
 
-/// The tunnel packet of a packet that a tunnel takes.
-fn wrap(alloc: Global, careof: Address, agent: Address, packet: &[u8]) -> Result<Bytes, Memory>
-    requires long { 40 ≤ length packet.now }
-    requires hop { 2 ≤ hop_of packet.now }
-    requires fits { length packet.now ≤ 65535 }
-    ensures { IfOk result (λ b. b ≡ encapsulated careof agent packet.now) }
+/// The tunnel packet of an original packet.
+fn wrap(
+    alloc: Global,
+    careof: Address,
+    agent: Address,
+    packet: &OriginalPacket,
+) -> Result<Bytes, Memory>
+    ensures { IfOk result (λ b. b ≡ encapsulated careof agent packet.now.bytes) }
 {
-    match encapsulate(alloc, careof, agent, packet) {
+    match encapsulate(alloc, careof, agent, packet.bytes.as_slice()) {
         Ok(bytes) => Ok(bytes),
         Err(EntryFault::Memory) => Err(Memory),
         Err(EntryFault::Hop | EntryFault::TooBig) => unreachable!(),
@@ -51,16 +54,14 @@ fn put_wrapped(
     careof: Address,
     agent: Address,
     is_signalling: bool,
-    packet: Bytes,
+    packet: OriginalPacket,
 ) -> Result<(), Memory>
-    requires long { 40 ≤ length packet }
-    requires hop { 2 ≤ hop_of packet }
-    requires fits { length packet ≤ 65535 }
-    ensures { (inner : Inner) (t : Transition) → is_signalling ≡ is_signal inner → packet ≡ inner_packet (home_of context.old.known) inner → Shows context.old t
+    ensures { (inner : Inner) (t : Transition) → is_signalling ≡ is_signal inner → packet.bytes ≡ inner_packet (home_of context.old.known) inner
+        → Shows context.old t
         → OnOk result (Shows context.new (noted (Sends (ByTunnel (home_of context.old.known) careof agent inner)) t)) }
 {
     let shield = shield_for(context.home(), agent, is_signalling);
-    let bytes = wrap(alloc, careof, agent, packet.as_slice())?;
+    let bytes = wrap(alloc, careof, agent, &packet)?;
     context.put(shield, bytes)
 }
 
@@ -70,12 +71,10 @@ fn tunnel(
     context: &mut CallContext,
     careof: Address,
     is_signalling: bool,
-    packet: Bytes,
+    packet: OriginalPacket,
 ) -> Result<(), Memory>
-    requires long { 40 ≤ length packet }
-    requires hop { 2 ≤ hop_of packet }
-    requires fits { length packet ≤ 65535 }
-    ensures { (inner : Inner) (t : Transition) → is_signalling ≡ is_signal inner → packet ≡ inner_packet (home_of context.old.known) inner → Shows context.old t
+    ensures { (inner : Inner) (t : Transition) → is_signalling ≡ is_signal inner → packet.bytes ≡ inner_packet (home_of context.old.known) inner
+        → Shows context.old t
         → OnOk result (Shows context.new (tunnels careof inner (registered_agent t.known t.now) t)) }
 {
     match context.registered_agent() {
@@ -84,24 +83,21 @@ fn tunnel(
     }
 }
 
-/// A packet goes out from the home address: straight at home, through the tunnel to the agent away. It is one that a tunnel
-/// takes.
+/// A packet goes out from the home address: straight at home, through the tunnel to the agent away.
 #[tactic(auto, unfolding(mip_rules_mobile::specs::OutRules::goes_out))]
 pub fn go_out(
     alloc: Global,
     context: &mut CallContext,
     is_signalling: bool,
-    packet: Bytes,
+    packet: OriginalPacket,
 ) -> Result<(), Memory>
-    requires long { 40 ≤ length packet }
-    requires hop { 2 ≤ hop_of packet }
-    requires fits { length packet ≤ 65535 }
-    ensures { (inner : Inner) (t : Transition) → is_signalling ≡ is_signal inner → packet ≡ inner_packet (home_of context.old.known) inner → Shows context.old t
+    ensures { (inner : Inner) (t : Transition) → is_signalling ≡ is_signal inner → packet.bytes ≡ inner_packet (home_of context.old.known) inner
+        → Shows context.old t
         → OnOk result (Shows context.new (goes_out inner t)) }
 {
     match context.standing() {
         Attachment::Detached => context.unsend(Why::Detached),
-        Attachment::AtHome => context.put(None, packet),
+        Attachment::AtHome => context.put(None, packet.bytes),
         Attachment::Away { careof } => tunnel(alloc, context, careof, is_signalling, packet),
     }
 }
@@ -115,6 +111,7 @@ pub fn ask_home(
 ) -> Result<(), Memory>
     ensures { (t : Transition) → Shows context.old t → OnOk result (Shows context.new (goes_out (AsksHome peer cookie.0) t)) }
 {
-    let packet = write_home_init(alloc, context.home(), peer, cookie)?;
+    let bytes = write_home_init(alloc, context.home(), peer, cookie)?;
+    let packet = OriginalPacket { bytes };
     go_out(alloc, context, true, packet)
 }

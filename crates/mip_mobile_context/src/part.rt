@@ -1,13 +1,10 @@
 //! The correspondent part, and what goes back to the source of a refused packet.
 
-ghost use Rattle.std.specs.Prelude.{◌≡◌, ◌≤◌, length, OnOk, IsTrue, IsFalse};
+ghost use Rattle.std.specs.Prelude.{◌≡◌, OnOk};
 ghost use Rattle.std.specs.List.{AllByRecursion};
-ghost use Rattle.mip_ipv6.specs.Tunnel.{hop_of};
-ghost use Rattle.mip_ipv6.specs.Packet.{packet as tree, is_routable_if_any, names_no_body};
+ghost use Rattle.mip_ipv6.specs.Packet.{packet as tree};
 ghost use Rattle.mip_ipv6.specs.Reading.{packet_of};
-ghost use Rattle.mip_packets.specs.Says.{message_in};
 ghost use Rattle.mip_rules_correspondent.specs.Calls as parts;
-ghost use Rattle.mip_rules_correspondent.specs.Rules.{is_data, is_for_part};
 ghost use Rattle.mip_rules_mobile.specs.Sendings.{OfPart, is_mobility};
 ghost use Rattle.mip_rules_mobile.specs.OutRules.{goes_out, passes_on, passes_all, asks_part, replies};
 ghost use Rattle.mip_rules_mobile.specs.Transitions.{Transition};
@@ -15,12 +12,15 @@ ghost use Rattle.mip_mobile_context.specs.Seen.{Shows};
 ghost use Rattle.mip_mobile_context.specs.Outgoing.{CanPass};
 
 use crate::call_context::CallContext;
+use crate::data::Data;
+use crate::original_packet::OriginalPacket;
 use crate::outgoing::go_out;
+use crate::part_packet::PartPacket;
 use mip_entries::{Answer, Answers};
-use mip_ipv6::{PacketRef, read_packet};
+use mip_ipv6::read_packet;
 use mip_reception::{Reply, write_reply};
 use mip_words::protocol::MOBILITY_HEADER;
-use mip_words::{Address, Bytes, Memory};
+use mip_words::{Address, Memory};
 use std::alloc::Global;
 
 /// Whether a packet carries a mobility message.
@@ -34,13 +34,14 @@ pub fn is_mobility(packet: &[u8]) -> bool
 }
 
 /// A packet of the correspondent part, or one that goes back, goes out.
-fn go_out_of_part(alloc: Global, context: &mut CallContext, packet: Bytes) -> Result<(), Memory>
-    requires long { 40 ≤ length packet }
-    requires hop { 2 ≤ hop_of packet }
-    requires fits { length packet ≤ 65535 }
-    ensures { (t : Transition) → Shows context.old t → OnOk result (Shows context.new (goes_out (OfPart packet) t)) }
+fn go_out_of_part(
+    alloc: Global,
+    context: &mut CallContext,
+    packet: OriginalPacket,
+) -> Result<(), Memory>
+    ensures { (t : Transition) → Shows context.old t → OnOk result (Shows context.new (goes_out (OfPart packet.bytes) t)) }
 {
-    let signals = is_mobility(packet.as_slice());
+    let signals = is_mobility(packet.bytes.as_slice());
     go_out(alloc, context, signals, packet)
 }
 
@@ -50,7 +51,9 @@ fn pass_on(alloc: Global, context: &mut CallContext, answer: Answer) -> Result<(
     ensures { (t : Transition) → Shows context.old t → OnOk result (Shows context.new (passes_on answer t)) }
 {
     match answer {
-        Answer::Send { shield: _, packet } => go_out_of_part(alloc, context, packet),
+        Answer::Send { shield: _, packet } => {
+            go_out_of_part(alloc, context, OriginalPacket { bytes: packet })
+        }
         Answer::Note(entry) => context.note_entry(entry),
     }
 }
@@ -69,16 +72,14 @@ fn pass_all(alloc: Global, context: &mut CallContext, answers: Answers) -> Resul
     Ok(())
 }
 
-/// The correspondent part is given a packet that passed the checks, and what it answers goes out.
+/// The correspondent part is given a packet, and what it answers goes out.
 pub fn ask_part(
     alloc: Global,
     context: &mut CallContext,
     number: u64,
-    packet: &PacketRef<'_>,
+    packet: &PartPacket<'_>,
 ) -> Result<(), Memory>
-    requires kind { IsTrue (is_for_part packet.now.head.proto (message_in (tree packet.now))) }
-    requires plain { IsTrue (is_routable_if_any packet.now.head.home) }
-    ensures { (t : Transition) → Shows context.old t → OnOk result (Shows context.new (asks_part (parts.Part number (tree packet.now)) t)) }
+    ensures { (t : Transition) → Shows context.old t → OnOk result (Shows context.new (asks_part (parts.Part number (tree packet.now.packet)) t)) }
 {
     let answers = context.give_part(alloc, number, packet)?;
     pass_all(alloc, context, answers)
@@ -97,15 +98,11 @@ pub fn ask_data(
     alloc: Global,
     context: &mut CallContext,
     to: Address,
-    proto: u8,
-    payload: &[u8],
+    data: &Data<'_>,
 ) -> Result<(), Memory>
-    requires data { IsTrue (is_data proto) }
-    requires proto { IsFalse (names_no_body proto) }
-    requires short { length payload.now ≤ 512 }
-    ensures { (t : Transition) → Shows context.old t → OnOk result (Shows context.new (asks_part (parts.Send to proto payload.now) t)) }
+    ensures { (t : Transition) → Shows context.old t → OnOk result (Shows context.new (asks_part (parts.Send to data.now.proto data.now.payload.now) t)) }
 {
-    let answers = context.send_part(alloc, to, proto, payload)?;
+    let answers = context.send_part(alloc, to, data)?;
     pass_all(alloc, context, answers)
 }
 
@@ -121,7 +118,10 @@ pub fn reply(
     ensures { (t : Transition) → Shows context.old t → OnOk result (Shows context.new (replies source packet.now reply t)) }
 {
     match write_reply(alloc, context.home(), source, packet, reply)? {
-        Some(packet) => go_out_of_part(alloc, context, packet),
+        Some(bytes) => {
+            let packet = OriginalPacket { bytes };
+            go_out_of_part(alloc, context, packet)
+        }
         None => Ok(()),
     }
 }

@@ -60,14 +60,12 @@ impl CallContext {
     }
 
     /// A timer of the home registration is set for so many milliseconds later.
-    pub fn wait_home(&mut self, timer: HomeTimer, wait: u64)
-        requires { wait < 2 ^ 32 }
+    pub fn wait_home(&mut self, timer: HomeTimer, wait: u32)
         ensures { (t : Transition) → Shows self.old t → Shows self.new (noted (Waits (Home timer) wait) t) }
     {
-        self.known
-            .list
-            .set(Moment(self.moment.0 + wait), Work::Home(timer));
-        self.known.wait = wait_set_by(timer, wait, self.known.wait);
+        let due = Moment(self.moment.0 + wait as u64);
+        self.known.list.set(due, Work::Home(timer));
+        self.known.wait = wait_set_by(timer, wait as u64, self.known.wait);
     }
 
     /// Work is stopped.

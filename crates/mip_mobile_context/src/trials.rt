@@ -1,6 +1,6 @@
 //! The steps of a call that change a row: its trial, and what else is kept of its peer.
 
-ghost use Rattle.std.specs.Prelude.{◌≡◌, ◌+◌, ◌<◌, ◌^◌, OnOk, None, Some};
+ghost use Rattle.std.specs.Prelude.{◌≡◌, OnOk, None, Some};
 ghost use Rattle.mip_bulist.specs.declared.work.Work.{Work};
 ghost use Rattle.mip_bulist.specs.declared.work.Work.TheVariants.{Resend};
 ghost use Rattle.mip_rules_mobile.specs.PeerRules.{test_at};
@@ -13,6 +13,7 @@ ghost use Rattle.mip_rules_mobile.specs.Transitions.{Transition, noted};
 ghost use Rattle.mip_mobile_context.specs.Seen.{Shows};
 
 use crate::call_context::CallContext;
+use crate::peer_row::PeerRow;
 use mip_bulist::{Aim, Work};
 use mip_entries::{Answer, Entry};
 use mip_mobile_state::{Heard, peers, trial};
@@ -81,15 +82,12 @@ impl CallContext {
     }
 
     /// A row's update is sent again after so many milliseconds.
-    pub fn wait_row(&mut self, row: u8, wait: u64)
-        requires range { row < 16 }
-        requires early { wait < 2 ^ 32 }
-        ensures { (t : Transition) → Shows self.old t → Shows self.new (noted (Waits (Resend row) wait) t) }
+    pub fn wait_row(&mut self, at: PeerRow, wait: u32)
+        ensures { (t : Transition) → Shows self.old t → Shows self.new (noted (Waits (Resend at.row) wait) t) }
     {
-        self.known
-            .list
-            .set(Moment(self.moment.0 + wait), Work::Resend(row));
-        peers::wait(&mut self.known.peers, row as usize, wait);
+        let due = Moment(self.moment.0 + wait as u64);
+        self.known.list.set(due, Work::Resend(at.row));
+        peers::wait(&mut self.known.peers, at.row as usize, wait as u64);
     }
 
     /// A row's binding ends.
@@ -105,18 +103,17 @@ impl CallContext {
     }
 
     /// A row's binding is acknowledged, until an end, to be renewed at a moment.
-    pub fn bind(&mut self, row: u8, peer: Address, end: Moment, renew: Moment) -> Result<(), Memory>
-        requires { row < 16 }
-        ensures { (t : Transition) → Shows self.old t → OnOk result (Shows self.new (noted (Binds row peer end renew) t)) }
+    pub fn bind(&mut self, at: PeerRow, end: Moment, renew: Moment) -> Result<(), Memory>
+        ensures { (t : Transition) → Shows self.old t → OnOk result (Shows self.new (noted (Binds at.row at.peer end renew) t)) }
     {
         self.answers.push(Answer::Note(Entry::Bound {
             node: MYSELF,
-            peer,
+            peer: at.peer,
             end,
         }))?;
-        peers::bind(&mut self.known.peers, row as usize, end);
-        self.known.list.set(renew, Work::Renew(row));
-        self.known.list.set(end, Work::End(row));
+        peers::bind(&mut self.known.peers, at.row as usize, end);
+        self.known.list.set(renew, Work::Renew(at.row));
+        self.known.list.set(end, Work::End(at.row));
         Ok(())
     }
 }

@@ -25,9 +25,8 @@ pub fn register_with(
     context: &mut CallContext,
     careof: Address,
     agent: Address,
-    wait: u64,
+    wait: u32,
 ) -> Result<(), Memory>
-    requires { wait < 2 ^ 32 }
     ensures { (t : Transition) → Shows context.old t → OnOk result (Shows context.new (registers_with careof agent wait t)) }
 {
     let sequence = context.next_to(agent);
@@ -42,9 +41,8 @@ pub fn deregister_with(
     alloc: Global,
     context: &mut CallContext,
     agent: Address,
-    wait: u64,
+    wait: u32,
 ) -> Result<(), Memory>
-    requires { wait < 2 ^ 32 }
     ensures { (t : Transition) → Shows context.old t → OnOk result (Shows context.new (deregisters_with agent wait t)) }
 {
     let sequence = context.next_to(agent);
@@ -63,19 +61,18 @@ pub fn deregister(
     ensures { (t : Transition) → Shows context.old t → OnOk result (Shows context.new (deregisters_at agent t)) }
 {
     match agent {
-        Some(agent) => deregister_with(alloc, context, agent, INITIAL_BINDACK_TIMEOUT),
+        Some(agent) => deregister_with(alloc, context, agent, INITIAL_BINDACK_TIMEOUT as u32),
         None => Ok(()),
     }
 }
 
 /// The first registration of a life waits longer.
-fn wait_behind(latest: Option<HomeUpdate>) -> u64
-    ensures value { result ≡ wait_behind latest }
-    ensures small { result < 2 ^ 32 }
+fn wait_behind(latest: Option<HomeUpdate>) -> u32
+    ensures { result ≡ wait_behind latest }
 {
     match latest {
-        Some(_) => INITIAL_BINDACK_TIMEOUT,
-        None => INITIAL_BINDACK_TIMEOUT_FIRST_REG,
+        Some(_) => INITIAL_BINDACK_TIMEOUT as u32,
+        None => INITIAL_BINDACK_TIMEOUT_FIRST_REG as u32,
     }
 }
 
@@ -87,7 +84,7 @@ pub fn seek(alloc: Global, context: &mut CallContext, careof: Address) -> Result
     let packet = write_discovery(alloc, context.home(), careof, identifier)?;
     context.seek();
     context.put(None, packet)?;
-    context.wait_home(HomeTimer::Discover, INITIAL_DHAAD_TIMEOUT);
+    context.wait_home(HomeTimer::Discover, INITIAL_DHAAD_TIMEOUT as u32);
     Ok(())
 }
 
@@ -118,8 +115,7 @@ pub fn register_if_away(
 }
 
 /// The last registration or deregistration again, with a new sequence.
-pub fn resend_home(alloc: Global, context: &mut CallContext, wait: u64) -> Result<(), Memory>
-    requires { wait < 2 ^ 32 }
+pub fn resend_home(alloc: Global, context: &mut CallContext, wait: u32) -> Result<(), Memory>
     ensures { (t : Transition) → Shows context.old t → OnOk result (Shows context.new (resends_home wait t)) }
 {
     match context.latest() {
@@ -132,9 +128,8 @@ fn resend_update(
     alloc: Global,
     context: &mut CallContext,
     update: HomeUpdate,
-    wait: u64,
+    wait: u32,
 ) -> Result<(), Memory>
-    requires { wait < 2 ^ 32 }
     ensures { (t : Transition) → Shows context.old t → OnOk result (Shows context.new (resends_as context.old.known.standing (Some update) wait t)) }
 {
     match context.standing() {
@@ -148,9 +143,8 @@ fn resend_at_home(
     alloc: Global,
     context: &mut CallContext,
     update: HomeUpdate,
-    wait: u64,
+    wait: u32,
 ) -> Result<(), Memory>
-    requires { wait < 2 ^ 32 }
     ensures { (t : Transition) → Shows context.old t → OnOk result (Shows context.new (resends_as AtHome (Some update) wait t)) }
 {
     if update.deletes {
@@ -165,9 +159,8 @@ fn resend_away(
     context: &mut CallContext,
     careof: Address,
     update: HomeUpdate,
-    wait: u64,
+    wait: u32,
 ) -> Result<(), Memory>
-    requires { wait < 2 ^ 32 }
     ensures { (t : Transition) → Shows context.old t → OnOk result (Shows context.new (resends_as (Away careof) (Some update) wait t)) }
 {
     if update.deletes {
@@ -188,7 +181,7 @@ pub fn catch_up(
     ensures { (t : Transition) → Shows context.old t → OnOk result (Shows context.new (is_behind update sequence t)) }
 {
     context.resequence(update.agent, sequence)?;
-    resend_home(alloc, context, INITIAL_BINDACK_TIMEOUT)
+    resend_home(alloc, context, INITIAL_BINDACK_TIMEOUT as u32)
 }
 
 /// An agent refuses: the next one that was found is tried; without one, nothing more is sent.
@@ -213,7 +206,8 @@ fn turn_to(
     match (standing, next) {
         (Attachment::Away { careof }, Some(agent)) => {
             context.choose(agent)?;
-            register_with(alloc, context, careof, agent, INITIAL_BINDACK_TIMEOUT)
+            let wait = INITIAL_BINDACK_TIMEOUT as u32;
+            register_with(alloc, context, careof, agent, wait)
         }
         _ => {
             context.stop(Work::Home(HomeTimer::Resend));
@@ -282,7 +276,7 @@ fn seek_once_more(
     match context.discovery_wait() {
         Some(wait) => {
             context.put(None, packet)?;
-            context.wait_home(HomeTimer::Discover, wait);
+            context.wait_home(HomeTimer::Discover, wait as u32);
         }
         None => context.give_up(),
     }

@@ -8,6 +8,6 @@ use Rattle.mip_mobile_routability.specs.declared.waiting.Waiting.{Waiting}
 
 -- its peer, the care-of address that its update is to bind, and when that was made: at this moment where it is not known
 pub record IsOf (w : Waiting) (now : ℕ) (u : Trial pending.Pending) : Type 0 where
-  pub peer : w.peer ≡ u.peer
+  pub peer : w.at.peer ≡ u.peer
   pub binds_to : w.binds_to ≡ binds_to u
   pub sent : w.sent.0 ≡ option_map_or (λ m. m.0) (sent_at u) now

@@ -1,6 +1,6 @@
 //! What a mobile does about the acknowledgements of a peer (RFC 6275 section 11.7.3).
 
-ghost use Rattle.std.specs.Prelude.{◌≡◌, ◌<◌, ◌^◌, OnOk, IfSome, Some};
+ghost use Rattle.std.specs.Prelude.{◌≡◌, OnOk, IfSome, Some};
 ghost use Rattle.mip_bulist.specs.declared.any.Any.TheVariants as any;
 ghost use Rattle.mip_bulist.specs.declared.state.Pending as pending;
 ghost use Rattle.mip_bulist.specs.declared.trial.Trial.{Trial};
@@ -18,7 +18,7 @@ use crate::peers::rest;
 use crate::trials::{start, update};
 use crate::waiting::Waiting;
 use mip_bulist::{Any, Pending, Trial, Work};
-use mip_mobile_context::CallContext;
+use mip_mobile_context::{CallContext, PeerRow};
 use mip_reception::status;
 use mip_tokens::{KeptKbm, PreparedKbm, authenticator};
 use mip_words::constants::{INITIAL_BINDACK_TIMEOUT, LIFETIME_UNIT};
@@ -41,7 +41,7 @@ pub fn take_ack_of(
         → OnOk result (Shows context.new (takes_ack_of number peer ack.now.status ack.now.sequence ack.now.lifetime ack.now.authenticator ack.now.message.now t)) }
 {
     match context.row_of(peer) {
-        Some(row) => ack_row(alloc, context, number, row, ack),
+        Some(row) => ack_row(alloc, context, number, PeerRow { row, peer }, ack),
         None => context.drop_packet(number, Why::Ack),
     }
 }
@@ -51,20 +51,26 @@ fn ack_row(
     alloc: Global,
     context: &mut CallContext,
     number: u64,
-    row: u8,
+    at: PeerRow,
     ack: &PeerAck<'_>,
 ) -> Result<(), Memory>
-    requires { row < 16 }
     ensures { (t : Transition) → Shows context.old t
-        → OnOk result (Shows context.new (acks_trial number row (home_of context.old.known)
-        ack.now.status ack.now.sequence ack.now.lifetime ack.now.authenticator ack.now.message.now (trial_of context.old.known row) t)) }
+        → OnOk result (Shows context.new (acks_trial number at.row (home_of context.old.known)
+        ack.now.status ack.now.sequence ack.now.lifetime ack.now.authenticator ack.now.message.now (trial_of context.old.known at.row) t)) }
 {
     let home = context.home();
-    let sent = context.sent_at(row);
-    match context.trial(row) {
+    let sent = context.sent_at(at.row);
+    match context.trial(at.row) {
         Some(Any::Pending(trial)) if acknowledges(home, ack, trial, context.kept_kbm()) => {
-            let waiting = Waiting::of(trial, sent);
-            take_peer_ack(alloc, context, row, &waiting, ack)
+            let waiting = Waiting {
+                at: PeerRow {
+                    row: at.row,
+                    peer: trial.peer(),
+                },
+                binds_to: trial.binds_to(),
+                sent,
+            };
+            take_peer_ack(alloc, context, &waiting, ack)
         }
         _ => context.drop_packet(number, Why::Ack),
     }
@@ -150,21 +156,19 @@ fn acknowledges(
 fn take_peer_ack(
     alloc: Global,
     context: &mut CallContext,
-    row: u8,
     waiting: &Waiting,
     ack: &PeerAck<'_>,
 ) -> Result<(), Memory>
-    requires range { row < 16 }
-    requires early { waiting.now.sent.0 < 2 ^ 62 }
     ensures { (u : Trial pending.Pending) (t : Transition) → IsOf waiting.now t.now u → Shows context.old t
-        → OnOk result (Shows context.new (takes_peer_ack row u ack.now.status ack.now.sequence ack.now.lifetime t)) }
+        → OnOk result (Shows context.new (takes_peer_ack waiting.now.at.row u ack.now.status ack.now.sequence ack.now.lifetime t)) }
 {
+    let row = waiting.at.row;
     if ack.status < 128 {
-        return grant(context, row, waiting, ack.sequence, ack.lifetime);
+        return grant(context, waiting, ack.sequence, ack.lifetime);
     }
     if ack.status == status::SEQUENCE_OUT_OF_WINDOW {
         context.resequence_trial(row, ack.sequence);
-        return update(alloc, context, row, INITIAL_BINDACK_TIMEOUT);
+        return update(alloc, context, row, INITIAL_BINDACK_TIMEOUT as u32);
     }
     if tells_of_nonces(ack.status) {
         return start(alloc, context, row);
@@ -177,46 +181,40 @@ fn take_peer_ack(
 #[tactic(auto, unfolding(mip_rules_mobile::specs::PeerRules::is_granted))]
 fn grant(
     context: &mut CallContext,
-    row: u8,
     waiting: &Waiting,
     sequence: u16,
     lifetime: u16,
 ) -> Result<(), Memory>
-    requires range { row < 16 }
-    requires early { waiting.now.sent.0 < 2 ^ 62 }
     ensures { (u : Trial pending.Pending) (t : Transition) → IsOf waiting.now t.now u → Shows context.old t
-        → OnOk result (Shows context.new (is_granted row u sequence lifetime t)) }
+        → OnOk result (Shows context.new (is_granted waiting.now.at.row u sequence lifetime t)) }
 {
+    let row = waiting.at.row;
     context.stop(Work::Resend(row));
     context.acknowledge_trial(row, sequence, lifetime);
-    end(context, row, waiting, lifetime)
+    end(context, waiting, lifetime)
 }
 
-fn end(context: &mut CallContext, row: u8, waiting: &Waiting, lifetime: u16) -> Result<(), Memory>
-    requires range { row < 16 }
-    requires early { waiting.now.sent.0 < 2 ^ 62 }
+fn end(context: &mut CallContext, waiting: &Waiting, lifetime: u16) -> Result<(), Memory>
     ensures { (u : Trial pending.Pending) (t : Transition) → IsOf waiting.now t.now u → Shows context.old t
-        → OnOk result (Shows context.new (ends_for waiting.now.binds_to u row lifetime t)) }
+        → OnOk result (Shows context.new (ends_for waiting.now.binds_to u waiting.now.at.row lifetime t)) }
 {
     match waiting.binds_to {
         Some(_) if lifetime == 0 => Ok(()),
-        Some(_) => bind(context, row, waiting, lifetime),
+        Some(_) => bind(context, waiting, lifetime),
         None => {
-            context.forget(row);
+            context.forget(waiting.at.row);
             Ok(())
         }
     }
 }
 
 /// The binding: its end is counted from the sending, and so is its renewal.
-fn bind(context: &mut CallContext, row: u8, waiting: &Waiting, lifetime: u16) -> Result<(), Memory>
-    requires range { row < 16 }
-    requires early { waiting.now.sent.0 < 2 ^ 62 }
+fn bind(context: &mut CallContext, waiting: &Waiting, lifetime: u16) -> Result<(), Memory>
     ensures { (u : Trial pending.Pending) (t : Transition) → IsOf waiting.now t.now u → Shows context.old t
-        → OnOk result (Shows context.new (binds_from u row lifetime t)) }
+        → OnOk result (Shows context.new (binds_from u waiting.now.at.row lifetime t)) }
 {
     let units = lifetime as u64;
     let end = Moment(waiting.sent.0 + LIFETIME_UNIT * units);
     let renew = Moment(waiting.sent.0 + REFRESH_UNIT * units);
-    context.bind(row, waiting.peer, end, renew)
+    context.bind(waiting.at, end, renew)
 }

@@ -2,6 +2,7 @@
 #![tactic(auto)]
 
 mod acks;
+mod keyed_update;
 mod missing;
 mod packets;
 mod peer_ack;

@@ -1,79 +1,63 @@
 //! The packets of return routability (RFC 6275 sections 6.1.7 and 11.7.2).
 
-ghost use Rattle.std.specs.Prelude.{◌≡◌, ◌<◌, IsTrue, IfOk, IfSome, true, false};
-ghost use Rattle.mip_words.specs.Addresses.{is_routable};
+ghost use Rattle.std.specs.Prelude.{◌≡◌, ◌<◌, IfOk, IfSome, true, false};
 ghost use Rattle.mip_mobhdr.specs.Said.{said_plain};
 ghost use Rattle.mip_mobhdr.specs.Said.Said.{Update};
 ghost use Rattle.mip_rules_mobile.specs.Sendings.{number_option, update_bytes, update_packet, with_indices};
+ghost use Rattle.mip_mobile_routability.specs.Updates.{peer_update};
 
+use crate::keyed_update::KeyedUpdate;
 use mip_bulist::Made;
 use mip_mobhdr::{OptionSet, Plain};
 use mip_packets::{NO_OPTIONS, node_head, straight, write_authenticated_packet};
-use mip_tokens::PreparedKbm;
 use mip_words::constants::MAX_RR_BINDING_LIFETIME;
 use mip_words::protocol::MOBILITY_HEADER;
-use mip_words::{Address, Bytes, Memory};
+use mip_words::{Bytes, Memory};
 use std::alloc::Global;
 
 /// An update to a peer, under the key of its tests.
 #[tactic(auto, unfolding(mip_rules_mobile::specs::Sendings::update_packet))]
-pub fn write_update(
-    alloc: Global,
-    home: Address,
-    source: Address,
-    peer: Address,
-    number: u8,
-    made: &Made,
-    kbm: &PreparedKbm,
-) -> Result<Bytes, Memory>
-    requires home { IsTrue (is_routable home.0) }
-    requires few { number < 8 }
-    requires key { kbm.now ≡ made.now.kbm }
-    ensures { IfOk result (λ b. b ≡ update_packet (record { home = home; source = source; peer = peer; number = number; made = made.now })) }
+pub fn write_update(alloc: Global, update: &KeyedUpdate<'_>) -> Result<Bytes, Memory>
+    ensures { IfOk result (λ b. b ≡ update_packet (peer_update update.now)) }
 {
-    if made.careof.is_some() {
-        write_binding(alloc, home, source, peer, number, made, kbm)
+    if update.made.careof.is_some() {
+        write_binding(alloc, update)
     } else {
-        write_deletion(alloc, home, source, peer, number, made, kbm)
+        write_deletion(alloc, update)
     }
 }
 
 /// An update that binds, from the care-of address and in the name of the home address, with its number.
-fn write_binding(
-    alloc: Global,
-    home: Address,
-    source: Address,
-    peer: Address,
-    number: u8,
-    made: &Made,
-    kbm: &PreparedKbm,
-) -> Result<Bytes, Memory>
-    requires home { IsTrue (is_routable home.0) }
-    requires few { number < 8 }
-    requires key { kbm.now ≡ made.now.kbm }
-    ensures { IfOk result (λ b. b ≡ update_bytes (record { home = home; source = source; peer = peer; number = number; made = made.now }) true) }
+fn write_binding(alloc: Global, update: &KeyedUpdate<'_>) -> Result<Bytes, Memory>
+    ensures { IfOk result (λ b. b ≡ update_bytes (peer_update update.now) true) }
 {
+    let KeyedUpdate {
+        home,
+        source,
+        peer,
+        number,
+        made,
+        kbm,
+    } = *update;
     let head = node_head(source, peer, None, Some(home), MOBILITY_HEADER);
     let message = update_of(made, number_option(number), MAX_RR_BINDING_LIFETIME);
     write_authenticated_packet(alloc, &head, &message, kbm, source, peer)
 }
 
 /// An update that deletes the binding, from home, whatever the number of the place.
-fn write_deletion(
-    alloc: Global,
-    home: Address,
-    source: Address,
-    peer: Address,
-    number: u8,
-    made: &Made,
-    kbm: &PreparedKbm,
-) -> Result<Bytes, Memory>
-    requires { kbm.now ≡ made.now.kbm }
-    ensures { IfOk result (λ b. b ≡ update_bytes (record { home = home; source = source; peer = peer; number = number; made = made.now }) false) }
+fn write_deletion(alloc: Global, update: &KeyedUpdate<'_>) -> Result<Bytes, Memory>
+    ensures { IfOk result (λ b. b ≡ update_bytes (peer_update update.now) false) }
 {
-    let head = straight(source, peer, MOBILITY_HEADER);
-    let message = update_of(made, None, 0);
-    write_authenticated_packet(alloc, &head, &message, kbm, source, peer)
+    let head = straight(update.source, update.peer, MOBILITY_HEADER);
+    let message = update_of(update.made, None, 0);
+    write_authenticated_packet(
+        alloc,
+        &head,
+        &message,
+        update.kbm,
+        update.source,
+        update.peer,
+    )
 }
 
 /// The Binding Number by which a number is asked for: none asks for 0.

@@ -97,7 +97,7 @@ fn keep_home_test(
     match row {
         Some(row) => {
             context.keep_home(row, test);
-            update(alloc, context, row, INITIAL_BINDACK_TIMEOUT)
+            update(alloc, context, row, INITIAL_BINDACK_TIMEOUT as u32)
         }
         None => context.drop_packet(number, Why::Cookie),
     }
@@ -135,7 +135,7 @@ fn keep_careof_test(
     match row {
         Some(row) => {
             context.keep_careof(row, test);
-            update(alloc, context, row, INITIAL_BINDACK_TIMEOUT)
+            update(alloc, context, row, INITIAL_BINDACK_TIMEOUT as u32)
         }
         None => context.drop_packet(number, Why::Cookie),
     }

@@ -1,6 +1,6 @@
 //! How a trial starts, asks again, and makes updates (RFC 6275 sections 11.6, 11.7.2 and 11.8).
 
-ghost use Rattle.std.specs.Prelude.{◌≡◌, ◌<◌, ◌^◌, OnOk, Some};
+ghost use Rattle.std.specs.Prelude.{◌≡◌, OnOk, Some};
 ghost use Rattle.mip_rules_mobile.specs.declared.attachment.Attachment.TheVariants.{AtHome, Away};
 ghost use Rattle.mip_rules_mobile.specs.HomeQuestions.{home_of};
 ghost use Rattle.mip_rules_mobile.specs.RowQuestions.{trial_of, wait_of_row};
@@ -12,10 +12,11 @@ ghost use Rattle.mip_rules_mobile.specs.Steps.{Sends};
 ghost use Rattle.mip_rules_mobile.specs.Transitions.{Transition, noted};
 ghost use Rattle.mip_mobile_context.specs.Seen.{Shows};
 
+use crate::keyed_update::KeyedUpdate;
 use crate::missing::Missing;
 use crate::packets::write_update;
 use mip_bulist::{Aim, Any, Made, Refused};
-use mip_mobile_context::{CallContext, ask_home, doubled};
+use mip_mobile_context::{CallContext, PeerRow, ask_home, doubled};
 use mip_packets::write_careof_init;
 use mip_rules_mobile::Attachment;
 use mip_tokens::KeptKbm;
@@ -30,42 +31,30 @@ pub fn start(alloc: Global, context: &mut CallContext, row: u8) -> Result<(), Me
     match context.peer_of_row(row) {
         Some(peer) => {
             context.draw_cookies();
-            start_with(alloc, context, row, peer)
+            start_with(alloc, context, PeerRow { row, peer })
         }
         None => Ok(()),
     }
 }
 
-fn start_with(
-    alloc: Global,
-    context: &mut CallContext,
-    row: u8,
-    peer: Address,
-) -> Result<(), Memory>
-    requires { row < 16 }
-    ensures { (t : Transition) → Shows context.old t → OnOk result (Shows context.new (starts_with context.old.known.standing row peer t)) }
+fn start_with(alloc: Global, context: &mut CallContext, at: PeerRow) -> Result<(), Memory>
+    ensures { (t : Transition) → Shows context.old t → OnOk result (Shows context.new (starts_with context.old.known.standing at.row at.peer t)) }
 {
     match context.standing() {
         Attachment::Detached => Ok(()),
-        Attachment::AtHome => start_deletion(alloc, context, row, peer),
-        Attachment::Away { careof } => start_binding(alloc, context, row, peer, careof),
+        Attachment::AtHome => start_deletion(alloc, context, at),
+        Attachment::Away { careof } => start_binding(alloc, context, at, careof),
     }
 }
 
 /// To delete a binding, from home, a Home Test Init is sent.
-fn start_deletion(
-    alloc: Global,
-    context: &mut CallContext,
-    row: u8,
-    peer: Address,
-) -> Result<(), Memory>
-    requires { row < 16 }
-    ensures { (t : Transition) → Shows context.old t → OnOk result (Shows context.new (starts_with AtHome row peer t)) }
+fn start_deletion(alloc: Global, context: &mut CallContext, at: PeerRow) -> Result<(), Memory>
+    ensures { (t : Transition) → Shows context.old t → OnOk result (Shows context.new (starts_with AtHome at.row at.peer t)) }
 {
     let home = context.first_cookie();
-    context.start_trial(row, Aim::Delete, home, home);
-    ask_home(alloc, context, peer, home)?;
-    context.wait_row(row, INITIAL_BINDACK_TIMEOUT);
+    context.start_trial(at.row, Aim::Delete, home, home);
+    ask_home(alloc, context, at.peer, home)?;
+    context.wait_row(at, INITIAL_BINDACK_TIMEOUT as u32);
     Ok(())
 }
 
@@ -73,19 +62,17 @@ fn start_deletion(
 fn start_binding(
     alloc: Global,
     context: &mut CallContext,
-    row: u8,
-    peer: Address,
+    at: PeerRow,
     careof: Address,
 ) -> Result<(), Memory>
-    requires { row < 16 }
-    ensures { (t : Transition) → Shows context.old t → OnOk result (Shows context.new (starts_with (Away careof) row peer t)) }
+    ensures { (t : Transition) → Shows context.old t → OnOk result (Shows context.new (starts_with (Away careof) at.row at.peer t)) }
 {
     let home = context.first_cookie();
     let other = context.second_cookie();
-    context.start_trial(row, Aim::Bind(careof), home, other);
-    ask_home(alloc, context, peer, home)?;
-    ask_careof(alloc, context, careof, peer, other)?;
-    context.wait_row(row, INITIAL_BINDACK_TIMEOUT);
+    context.start_trial(at.row, Aim::Bind(careof), home, other);
+    ask_home(alloc, context, at.peer, home)?;
+    ask_careof(alloc, context, careof, at.peer, other)?;
+    context.wait_row(at, INITIAL_BINDACK_TIMEOUT as u32);
     Ok(())
 }
 
@@ -104,34 +91,25 @@ fn ask_careof(
 }
 
 /// The trial of a row makes an update, if it has the tests that its aim needs; it is sent again after so many milliseconds.
-pub fn update(alloc: Global, context: &mut CallContext, row: u8, wait: u64) -> Result<(), Memory>
-    requires { wait < 2 ^ 32 }
+pub fn update(alloc: Global, context: &mut CallContext, row: u8, wait: u32) -> Result<(), Memory>
     ensures { (t : Transition) → Shows context.old t → OnOk result (Shows context.new (updates row wait t)) }
 {
     match context.peer_of_row(row) {
-        Some(peer) => make(alloc, context, row, peer, wait),
+        Some(peer) => make(alloc, context, PeerRow { row, peer }, wait),
         None => Ok(()),
     }
 }
 
 /// With tokens too old the trial starts anew; too soon after three others, nothing is sent at this time.
-fn make(
-    alloc: Global,
-    context: &mut CallContext,
-    row: u8,
-    peer: Address,
-    wait: u64,
-) -> Result<(), Memory>
-    requires range { row < 16 }
-    requires early { wait < 2 ^ 32 }
+fn make(alloc: Global, context: &mut CallContext, at: PeerRow, wait: u32) -> Result<(), Memory>
     ensures { (t : Transition) → Shows context.old t
-        → OnOk result (Shows context.new (makes_with (makes (record { 0 = context.old.moment }) (trial_of context.old.known row)) row peer wait t)) }
+        → OnOk result (Shows context.new (makes_with (makes (record { 0 = context.old.moment }) (trial_of context.old.known at.row)) at.row at.peer wait t)) }
 {
-    match context.makes(row) {
-        Some(Ok(made)) => send_made(alloc, context, row, peer, &made, wait),
-        Some(Err(Refused::Old)) => start(alloc, context, row),
+    match context.makes(at.row) {
+        Some(Ok(made)) => send_made(alloc, context, at, &made, wait),
+        Some(Err(Refused::Old)) => start(alloc, context, at.row),
         Some(Err(Refused::TooSoon)) => {
-            context.wait_row(row, wait);
+            context.wait_row(at, wait);
             Ok(())
         }
         Some(Err(Refused::Cookie)) | Some(Err(Refused::NotMine)) | None => Ok(()),
@@ -141,19 +119,16 @@ fn make(
 fn send_made(
     alloc: Global,
     context: &mut CallContext,
-    row: u8,
-    peer: Address,
+    at: PeerRow,
     made: &Made,
-    wait: u64,
+    wait: u32,
 ) -> Result<(), Memory>
-    requires range { row < 16 }
-    requires early { wait < 2 ^ 32 }
     requires key { IsOfTokens made.now }
     ensures { (t : Transition) → Shows context.old t
-        → OnOk result (Shows context.new (sends_update (source_for t.known.standing (home_of t.known) made.now) row peer made.now wait t)) }
+        → OnOk result (Shows context.new (sends_update (source_for t.known.standing (home_of t.known) made.now) at.row at.peer made.now wait t)) }
 {
     match source_for(context.standing(), context.home(), made) {
-        Some(source) => send_update(alloc, context, row, source, peer, made, wait),
+        Some(source) => send_update(alloc, context, at, source, made, wait),
         None => Ok(()),
     }
 }
@@ -172,30 +147,27 @@ fn source_for(standing: Attachment, home: Address, made: &Made) -> Option<Addres
 fn send_update(
     alloc: Global,
     context: &mut CallContext,
-    row: u8,
+    at: PeerRow,
     source: Address,
-    peer: Address,
     made: &Made,
-    wait: u64,
+    wait: u32,
 ) -> Result<(), Memory>
-    requires range { row < 16 }
-    requires early { wait < 2 ^ 32 }
     requires key { IsOfTokens made.now }
-    ensures { (t : Transition) → Shows context.old t → OnOk result (Shows context.new (sends_update (Some source) row peer made.now wait t)) }
+    ensures { (t : Transition) → Shows context.old t → OnOk result (Shows context.new (sends_update (Some source) at.row at.peer made.now wait t)) }
 {
     let kbm = KeptKbm::new(made.home, made.careof, made.kbm);
-    let packet = write_update(
-        alloc,
-        context.home(),
+    let keyed = KeyedUpdate {
+        home: context.home(),
         source,
-        peer,
-        context.binding_number(),
+        peer: at.peer,
+        number: context.binding_number(),
         made,
-        kbm.key(),
-    )?;
-    context.put_update(row, source, peer, made, packet)?;
+        kbm: kbm.key(),
+    };
+    let packet = write_update(alloc, &keyed)?;
+    context.put_update(at.row, source, at.peer, made, packet)?;
     context.keep_kbm(kbm);
-    context.wait_row(row, wait);
+    context.wait_row(at, wait);
     Ok(())
 }
 
@@ -204,43 +176,35 @@ pub fn resend_row(alloc: Global, context: &mut CallContext, row: u8) -> Result<(
     ensures { (t : Transition) → Shows context.old t → OnOk result (Shows context.new (resends_row row t)) }
 {
     match context.peer_of_row(row) {
-        Some(peer) => resend_to(alloc, context, row, peer),
+        Some(peer) => resend_to(alloc, context, PeerRow { row, peer }),
         None => Ok(()),
     }
 }
 
-fn resend_to(alloc: Global, context: &mut CallContext, row: u8, peer: Address) -> Result<(), Memory>
-    requires { row < 16 }
-    ensures { (t : Transition) → Shows context.old t → OnOk result (Shows context.new (resends_at (Some peer) row (wait_of_row context.old.known row) t)) }
+fn resend_to(alloc: Global, context: &mut CallContext, at: PeerRow) -> Result<(), Memory>
+    ensures { (t : Transition) → Shows context.old t
+        → OnOk result (Shows context.new (resends_at (Some at.peer) at.row (wait_of_row context.old.known at.row) t)) }
 {
-    let wait = context.wait_of_row(row);
+    let wait = context.wait_of_row(at.row);
     if wait == MAX_BINDACK_TIMEOUT {
-        context.rest_trial(row);
+        context.rest_trial(at.row);
         return Ok(());
     }
-    go_on(alloc, context, row, peer, doubled(wait))
+    go_on(alloc, context, at, doubled(wait) as u32)
 }
 
 /// Once it has its tests it makes the update again; until then the inits whose tests are missing are sent again.
-fn go_on(
-    alloc: Global,
-    context: &mut CallContext,
-    row: u8,
-    peer: Address,
-    wait: u64,
-) -> Result<(), Memory>
-    requires range { row < 16 }
-    requires early { wait < 2 ^ 32 }
-    ensures { (t : Transition) → Shows context.old t → OnOk result (Shows context.new (goes_on (trial_of context.old.known row) row peer wait t)) }
+fn go_on(alloc: Global, context: &mut CallContext, at: PeerRow, wait: u32) -> Result<(), Memory>
+    ensures { (t : Transition) → Shows context.old t → OnOk result (Shows context.new (goes_on (trial_of context.old.known at.row) at.row at.peer wait t)) }
 {
-    match context.trial(row) {
+    match context.trial(at.row) {
         Some(Any::Probing(trial)) => {
             let missing = Missing::of(trial);
-            ask_again(alloc, context, peer, missing)?;
-            context.wait_row(row, wait);
+            ask_again(alloc, context, at.peer, missing)?;
+            context.wait_row(at, wait);
             Ok(())
         }
-        Some(Any::Proved(_)) | Some(Any::Pending(_)) => update(alloc, context, row, wait),
+        Some(Any::Proved(_)) | Some(Any::Pending(_)) => update(alloc, context, at.row, wait),
         Some(Any::Idle(_)) | Some(Any::Bound(_)) | None => Ok(()),
     }
 }

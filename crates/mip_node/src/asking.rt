@@ -1,6 +1,6 @@
 //! A node is asked something: it answers, and its answers are carried out.
 
-ghost use Rattle.std.specs.Prelude.{◌≡◌, ◌<◌, ◌^◌, true, OnOk, OnErr, IsErrOf};
+ghost use Rattle.std.specs.Prelude.{◌≡◌, true, OnOk, OnErr, IsErrOf};
 ghost use Rattle.mip_roles.specs.Calls.{asked, IsAskable};
 ghost use Rattle.mip_config.specs.Facts.{is_sendable};
 ghost use Rattle.std.specs.Result.{IsOk};
@@ -14,10 +14,10 @@ ghost use Rattle.mip_node.specs.Turns.{worked, paid_one, paid, before};
 use crate::node::Node;
 use crate::sending::answer_all;
 use crate::setting::Setting;
+use crate::turn_moment::TurnMoment;
 use mip_config::Payload;
 use mip_outside::{Link, PutFault};
 use mip_roles::Call;
-use mip_words::Moment;
 
 /// The node is asked something.
 #[tactic(auto, unfolding(crate::specs::Nodes::asked_at), using(mip_outside::proofs::Calling::granted_none))]
@@ -25,16 +25,16 @@ pub fn ask<L: Link>(
     node: &mut Node,
     setting: &Setting<'_>,
     link: &mut L,
-    now: Moment,
+    now: TurnMoment,
     call: Call<'_>,
 ) -> Result<(), PutFault>
-    requires later { IsBy node.old.role now.0 }
-    requires early { now.0 < 2 ^ 62 }
+    requires later { IsBy node.old.role now.moment.0 }
     requires askable { IsAskable call }
-    ensures ok { OnOk result (serving node.new (L.sent link.new) ≡ asked_at (said setting.now) now.0 (asked call.entry) (serving node.old (L.sent link.old))) }
+    ensures ok { OnOk result (serving node.new (L.sent link.new) ≡
+        asked_at (said setting.now) now.moment.0 (asked call.entry) (serving node.old (L.sent link.old))) }
     ensures cut { OnErr result (Between (L.sent link.old) (L.sent link.new)
-        (asked_at (said setting.now) now.0 (asked call.entry) (serving node.old (L.sent link.old))).sent) }
-    ensures timely { IsBy node.new.role now.0 }
+        (asked_at (said setting.now) now.moment.0 (asked call.entry) (serving node.old (L.sent link.old))).sent) }
+    ensures timely { IsBy node.new.role now.moment.0 }
     ensures kept { (L.coming link.new ≡ L.coming link.old) × (L.port link.new ≡ L.port link.old) }
     ensures calls { EndsAtFault (IsOk result) (IsErrOf result PutFault.Failed) (IsErrOf result PutFault.Memory) (L.calls link.old) (L.calls link.new) }
     ensures faults { CountsFaults (IsErrOf result PutFault.Failed) (L.faults link.old) (L.faults link.new) }
@@ -49,19 +49,18 @@ fn work<L: Link>(
     node: &mut Node,
     setting: &Setting<'_>,
     link: &mut L,
-    now: Moment,
+    now: TurnMoment,
 ) -> Result<(), PutFault>
-    requires later { IsBy node.old.role now.0 }
-    requires early { now.0 < 2 ^ 62 }
-    ensures ok { OnOk result (serving node.new (L.sent link.new) ≡ worked (said setting.now) now.0 (serving node.old (L.sent link.old))) }
+    requires later { IsBy node.old.role now.moment.0 }
+    ensures ok { OnOk result (serving node.new (L.sent link.new) ≡ worked (said setting.now) now.moment.0 (serving node.old (L.sent link.old))) }
     ensures cut { OnErr result (Between (L.sent link.old) (L.sent link.new)
-        (worked (said setting.now) now.0 (serving node.old (L.sent link.old))).sent) }
-    ensures timely { IsBy node.new.role now.0 }
+        (worked (said setting.now) now.moment.0 (serving node.old (L.sent link.old))).sent) }
+    ensures timely { IsBy node.new.role now.moment.0 }
     ensures kept { (L.coming link.new ≡ L.coming link.old) × (L.port link.new ≡ L.port link.old) }
     ensures calls { EndsAtFault (IsOk result) (IsErrOf result PutFault.Failed) (IsErrOf result PutFault.Memory) (L.calls link.old) (L.calls link.new) }
     ensures faults { CountsFaults (IsErrOf result PutFault.Failed) (L.faults link.old) (L.faults link.new) }
 {
-    if node.has_due(now) {
+    if node.has_due(now.moment) {
         ask(node, setting, link, now, Call::Tick)
     } else {
         Ok(())
@@ -75,16 +74,16 @@ fn pay_one<L: Link>(
     setting: &Setting<'_>,
     link: &mut L,
     turn: u32,
-    now: Moment,
+    now: TurnMoment,
     payload: &Payload,
 ) -> Result<(), PutFault>
-    requires later { IsBy node.old.role now.0 }
-    requires early { now.0 < 2 ^ 62 }
+    requires later { IsBy node.old.role now.moment.0 }
     requires sendable { is_sendable payload.now ≡ true }
-    ensures ok { OnOk result (serving node.new (L.sent link.new) ≡ paid_one (said setting.now) turn now.0 (serving node.old (L.sent link.old)) payload.now) }
+    ensures ok { OnOk result (serving node.new (L.sent link.new) ≡
+        paid_one (said setting.now) turn now.moment.0 (serving node.old (L.sent link.old)) payload.now) }
     ensures cut { OnErr result (Between (L.sent link.old) (L.sent link.new)
-        (paid_one (said setting.now) turn now.0 (serving node.old (L.sent link.old)) payload.now).sent) }
-    ensures timely { IsBy node.new.role now.0 }
+        (paid_one (said setting.now) turn now.moment.0 (serving node.old (L.sent link.old)) payload.now).sent) }
+    ensures timely { IsBy node.new.role now.moment.0 }
     ensures kept { (L.coming link.new ≡ L.coming link.old) × (L.port link.new ≡ L.port link.old) }
     ensures calls { EndsAtFault (IsOk result) (IsErrOf result PutFault.Failed) (IsErrOf result PutFault.Memory) (L.calls link.old) (L.calls link.new) }
     ensures faults { CountsFaults (IsErrOf result PutFault.Failed) (L.faults link.old) (L.faults link.new) }
@@ -107,15 +106,14 @@ fn pay<L: Link>(
     setting: &Setting<'_>,
     link: &mut L,
     turn: u32,
-    now: Moment,
+    now: TurnMoment,
 ) -> Result<(), PutFault>
-    requires later { IsBy node.old.role now.0 }
-    requires early { now.0 < 2 ^ 62 }
+    requires later { IsBy node.old.role now.moment.0 }
     ensures ok { OnOk result (serving node.new (L.sent link.new) ≡
-        paid (said setting.now) turn now.0 (said setting.now).payloads (serving node.old (L.sent link.old))) }
+        paid (said setting.now) turn now.moment.0 (said setting.now).payloads (serving node.old (L.sent link.old))) }
     ensures cut { OnErr result (Between (L.sent link.old) (L.sent link.new)
-        (paid (said setting.now) turn now.0 (said setting.now).payloads (serving node.old (L.sent link.old))).sent) }
-    ensures timely { IsBy node.new.role now.0 }
+        (paid (said setting.now) turn now.moment.0 (said setting.now).payloads (serving node.old (L.sent link.old))).sent) }
+    ensures timely { IsBy node.new.role now.moment.0 }
     ensures kept { (L.coming link.new ≡ L.coming link.old) × (L.port link.new ≡ L.port link.old) }
     ensures calls { EndsAtFault (IsOk result) (IsErrOf result PutFault.Failed) (IsErrOf result PutFault.Memory) (L.calls link.old) (L.calls link.new) }
     ensures faults { CountsFaults (IsErrOf result PutFault.Failed) (L.faults link.old) (L.faults link.new) }
@@ -133,19 +131,18 @@ pub fn act_first<L: Link>(
     setting: &Setting<'_>,
     link: &mut L,
     turn: u32,
-    now: Moment,
+    now: TurnMoment,
 ) -> Result<(), PutFault>
-    requires later { IsBy node.old.role now.0 }
-    requires early { now.0 < 2 ^ 62 }
-    ensures ok { OnOk result (serving node.new (L.sent link.new) ≡ before (said setting.now) turn now.0 (serving node.old (L.sent link.old))) }
+    requires later { IsBy node.old.role now.moment.0 }
+    ensures ok { OnOk result (serving node.new (L.sent link.new) ≡ before (said setting.now) turn now.moment.0 (serving node.old (L.sent link.old))) }
     ensures cut { OnErr result (Between (L.sent link.old) (L.sent link.new)
-        (before (said setting.now) turn now.0 (serving node.old (L.sent link.old))).sent) }
-    ensures timely { IsBy node.new.role now.0 }
+        (before (said setting.now) turn now.moment.0 (serving node.old (L.sent link.old))).sent) }
+    ensures timely { IsBy node.new.role now.moment.0 }
     ensures kept { (L.coming link.new ≡ L.coming link.old) × (L.port link.new ≡ L.port link.old) }
     ensures calls { EndsAtFault (IsOk result) (IsErrOf result PutFault.Failed) (IsErrOf result PutFault.Memory) (L.calls link.old) (L.calls link.new) }
     ensures faults { CountsFaults (IsErrOf result PutFault.Failed) (L.faults link.old) (L.faults link.new) }
 {
-    node.begin(now)?;
+    node.begin(now.moment)?;
     work(node, setting, link, now)?;
     pay(node, setting, link, turn, now)
 }

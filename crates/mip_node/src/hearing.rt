@@ -1,6 +1,6 @@
 //! A node is handed what comes over its link.
 
-ghost use Rattle.std.specs.Prelude.{◌≡◌, ◌<◌, ◌^◌, option_map, OnOk, OnErr, IsErrOf};
+ghost use Rattle.std.specs.Prelude.{◌≡◌, option_map, OnOk, OnErr, IsErrOf};
 ghost use Rattle.mip_frames.specs.Framing.{framed};
 ghost use Rattle.std.specs.Result.{IsOk};
 ghost use Rattle.mip_outside.specs.LinkCalls.{EndsAtFault};
@@ -16,11 +16,12 @@ use crate::node::Node;
 use crate::role::{address_of, is_mobile};
 use crate::sending::HERE;
 use crate::setting::Setting;
+use crate::turn_moment::TurnMoment;
 use mip_entries::Entry;
 use mip_frames::{Frame, read_frame_for};
 use mip_outside::{Link, PutFault};
 use mip_roles::Call;
-use mip_words::{Moment, Prefix, Why};
+use mip_words::{Prefix, Why};
 
 /// A mobile is told of a router on its link.
 #[tactic(auto, using(mip_outside::proofs::Calling::granted_none))]
@@ -28,15 +29,15 @@ fn attach<L: Link>(
     node: &mut Node,
     setting: &Setting<'_>,
     link: &mut L,
-    now: Moment,
+    now: TurnMoment,
     prefix: Prefix,
 ) -> Result<(), PutFault>
-    requires later { IsBy node.old.role now.0 }
-    requires early { now.0 < 2 ^ 62 }
-    ensures ok { OnOk result (serving node.new (L.sent link.new) ≡ told_of_router (said setting.now) now.0 prefix.0 (serving node.old (L.sent link.old))) }
+    requires later { IsBy node.old.role now.moment.0 }
+    ensures ok { OnOk result (serving node.new (L.sent link.new) ≡
+        told_of_router (said setting.now) now.moment.0 prefix.0 (serving node.old (L.sent link.old))) }
     ensures cut { OnErr result (Between (L.sent link.old) (L.sent link.new)
-        (told_of_router (said setting.now) now.0 prefix.0 (serving node.old (L.sent link.old))).sent) }
-    ensures timely { IsBy node.new.role now.0 }
+        (told_of_router (said setting.now) now.moment.0 prefix.0 (serving node.old (L.sent link.old))).sent) }
+    ensures timely { IsBy node.new.role now.moment.0 }
     ensures kept { (L.coming link.new ≡ L.coming link.old) × (L.port link.new ≡ L.port link.old) }
     ensures calls { EndsAtFault (IsOk result) (IsErrOf result PutFault.Failed) (IsErrOf result PutFault.Memory) (L.calls link.old) (L.calls link.new) }
     ensures faults { CountsFaults (IsErrOf result PutFault.Failed) (L.faults link.old) (L.faults link.new) }
@@ -65,18 +66,17 @@ fn give<L: Link>(
     node: &mut Node,
     setting: &Setting<'_>,
     link: &mut L,
-    now: Moment,
+    now: TurnMoment,
     number: u64,
     frame: Frame<'_>,
     prefix: Option<Prefix>,
 ) -> Result<(), PutFault>
-    requires later { IsBy node.old.role now.0 }
-    requires early { now.0 < 2 ^ 62 }
+    requires later { IsBy node.old.role now.moment.0 }
     ensures ok { OnOk result (serving node.new (L.sent link.new) ≡
-        given (said setting.now) now.0 number (framed frame.entry) (option_map (λ p. p.0) prefix) (serving node.old (L.sent link.old))) }
+        given (said setting.now) now.moment.0 number (framed frame.entry) (option_map (λ p. p.0) prefix) (serving node.old (L.sent link.old))) }
     ensures cut { OnErr result (Between (L.sent link.old) (L.sent link.new)
-        (given (said setting.now) now.0 number (framed frame.entry) (option_map (λ p. p.0) prefix) (serving node.old (L.sent link.old))).sent) }
-    ensures timely { IsBy node.new.role now.0 }
+        (given (said setting.now) now.moment.0 number (framed frame.entry) (option_map (λ p. p.0) prefix) (serving node.old (L.sent link.old))).sent) }
+    ensures timely { IsBy node.new.role now.moment.0 }
     ensures kept { (L.coming link.new ≡ L.coming link.old) × (L.port link.new ≡ L.port link.old) }
     ensures calls { EndsAtFault (IsOk result) (IsErrOf result PutFault.Failed) (IsErrOf result PutFault.Memory) (L.calls link.old) (L.calls link.new) }
     ensures faults { CountsFaults (IsErrOf result PutFault.Failed) (L.faults link.old) (L.faults link.new) }
@@ -100,17 +100,16 @@ fn take<L: Link>(
     node: &mut Node,
     setting: &Setting<'_>,
     link: &mut L,
-    now: Moment,
+    now: TurnMoment,
     number: u64,
     frame: Frame<'_>,
 ) -> Result<(), PutFault>
-    requires later { IsBy node.old.role now.0 }
-    requires early { now.0 < 2 ^ 62 }
+    requires later { IsBy node.old.role now.moment.0 }
     ensures ok { OnOk result (serving node.new (L.sent link.new) ≡
-        taken (said setting.now) now.0 number (framed frame.entry) (serving node.old (L.sent link.old))) }
+        taken (said setting.now) now.moment.0 number (framed frame.entry) (serving node.old (L.sent link.old))) }
     ensures cut { OnErr result (Between (L.sent link.old) (L.sent link.new)
-        (taken (said setting.now) now.0 number (framed frame.entry) (serving node.old (L.sent link.old))).sent) }
-    ensures timely { IsBy node.new.role now.0 }
+        (taken (said setting.now) now.moment.0 number (framed frame.entry) (serving node.old (L.sent link.old))).sent) }
+    ensures timely { IsBy node.new.role now.moment.0 }
     ensures kept { (L.coming link.new ≡ L.coming link.old) × (L.port link.new ≡ L.port link.old) }
     ensures calls { EndsAtFault (IsOk result) (IsErrOf result PutFault.Failed) (IsErrOf result PutFault.Memory) (L.calls link.old) (L.calls link.new) }
     ensures faults { CountsFaults (IsErrOf result PutFault.Failed) (L.faults link.old) (L.faults link.new) }
@@ -129,15 +128,14 @@ pub fn hear<L: Link>(
     node: &mut Node,
     setting: &Setting<'_>,
     link: &mut L,
-    now: Moment,
+    now: TurnMoment,
     datagram: &[u8],
 ) -> Result<(), PutFault>
-    requires later { IsBy node.old.role now.0 }
-    requires early { now.0 < 2 ^ 62 }
-    ensures ok { OnOk result (serving node.new (L.sent link.new) ≡ heard (said setting.now) now.0 datagram.now (serving node.old (L.sent link.old))) }
+    requires later { IsBy node.old.role now.moment.0 }
+    ensures ok { OnOk result (serving node.new (L.sent link.new) ≡ heard (said setting.now) now.moment.0 datagram.now (serving node.old (L.sent link.old))) }
     ensures cut { OnErr result (Between (L.sent link.old) (L.sent link.new)
-        (heard (said setting.now) now.0 datagram.now (serving node.old (L.sent link.old))).sent) }
-    ensures timely { IsBy node.new.role now.0 }
+        (heard (said setting.now) now.moment.0 datagram.now (serving node.old (L.sent link.old))).sent) }
+    ensures timely { IsBy node.new.role now.moment.0 }
     ensures kept { (L.coming link.new ≡ L.coming link.old) × (L.port link.new ≡ L.port link.old) }
     ensures calls { EndsAtFault (IsOk result) (IsErrOf result PutFault.Failed) (IsErrOf result PutFault.Memory) (L.calls link.old) (L.calls link.new) }
     ensures faults { CountsFaults (IsErrOf result PutFault.Failed) (L.faults link.old) (L.faults link.new) }

@@ -13,6 +13,7 @@ mod sending;
 mod setting;
 mod telling;
 mod turn;
+mod turn_moment;
 
 pub use laws::{
     datagrams_leave_entries, shields_end_at_their_node, told_turns_are_one, turns_take_their_steps,

@@ -1,4 +1,4 @@
-ghost use Rattle.std.specs.Prelude.{◌≡◌, ◌<◌, ◌^◌, option_map, IfOk, OnOk, OnErr};
+ghost use Rattle.std.specs.Prelude.{◌≡◌, option_map, IfOk, OnOk, OnErr};
 ghost use Rattle.mip_roles.specs.Calls.{asked, IsAskable};
 ghost use Rattle.mip_node.specs.Roles.{answers_at, role_after, has_due, IsBy};
 ghost use Rattle.mip_node.specs.Nodes.{noted, counted, with_role, is_at, begun, after_put};
@@ -8,6 +8,7 @@ ghost use Rattle.mip_node.specs.Turns.{first_node};
 
 use crate::role::{act, first_role, has_due};
 use crate::setting::Setting;
+use crate::turn_moment::TurnMoment;
 use mip_entries::{Answers, Entry};
 use mip_outside::Put;
 use mip_roles::{Call, Role};
@@ -147,15 +148,14 @@ impl Node {
     pub fn act(
         &mut self,
         setting: &Setting<'_>,
-        now: Moment,
+        now: TurnMoment,
         call: Call<'_>,
     ) -> Result<Answers, Memory>
-        requires later { IsBy self.old.role now.0 }
-        requires early { now.0 < 2 ^ 62 }
+        requires later { IsBy self.old.role now.moment.0 }
         requires askable { IsAskable call }
-        ensures answers { IfOk result (λ a. a ≡ answers_at self.old.role now.0 (asked call.entry)) }
-        ensures after { OnOk result (self.new ≡ with_role (role_after self.old.role now.0 (asked call.entry)) self.old) }
-        ensures timely { IsBy self.new.role now.0 }
+        ensures answers { IfOk result (λ a. a ≡ answers_at self.old.role now.moment.0 (asked call.entry)) }
+        ensures after { OnOk result (self.new ≡ with_role (role_after self.old.role now.moment.0 (asked call.entry)) self.old) }
+        ensures timely { IsBy self.new.role now.moment.0 }
     {
         act(&mut self.role, setting, now, call)
     }

@@ -1,6 +1,6 @@
 //! The role of a node that is run by itself.
 
-ghost use Rattle.std.specs.Prelude.{◌≡◌, ◌<◌, ◌^◌, IfOk, OnOk};
+ghost use Rattle.std.specs.Prelude.{◌≡◌, IfOk, OnOk};
 ghost use Rattle.mip_roles.specs.Calls.{asked, IsAskable};
 ghost use Rattle.mip_roles.specs.Hosts.{kind_of};
 ghost use Rattle.mip_config.specs.Facts.{address_of};
@@ -8,9 +8,10 @@ ghost use Rattle.mip_node.specs.Roles.{answers_at, role_after, has_due, IsBy, ki
 ghost use Rattle.mip_node.specs.Settings.{said};
 
 use crate::setting::Setting;
+use crate::turn_moment::TurnMoment;
 use mip_config::Role as Named;
 use mip_entries::Answers;
-use mip_roles::{Call, Kind, Role};
+use mip_roles::{BindingNumbers, Call, Kind, Role};
 use mip_words::{Address, Memory, Moment};
 
 /// The address that a node is known by: the home address of a mobile.
@@ -60,7 +61,16 @@ fn new_role(setting: &Setting<'_>) -> Result<Role, Memory>
     let config = setting.config;
     let kind = kind_of(setting)?;
     let own = address_of(&config.role);
-    Role::new(setting.alloc, &config.seed, config.node, 0, own, &kind, 1)
+    let numbers = BindingNumbers { count: 1 };
+    Role::new(
+        setting.alloc,
+        &config.seed,
+        config.node,
+        0,
+        own,
+        &kind,
+        numbers,
+    )
 }
 
 /// The role is asked something, where nobody else holds an address.
@@ -68,18 +78,17 @@ fn new_role(setting: &Setting<'_>) -> Result<Role, Memory>
 pub fn act(
     role: &mut Role,
     setting: &Setting<'_>,
-    now: Moment,
+    now: TurnMoment,
     call: Call<'_>,
 ) -> Result<Answers, Memory>
-    requires later { IsBy role.old now.0 }
-    requires early { now.0 < 2 ^ 62 }
+    requires later { IsBy role.old now.moment.0 }
     requires askable { IsAskable call }
-    ensures answers { IfOk result (λ a. a ≡ answers_at role.old now.0 (asked call.entry)) }
-    ensures after { OnOk result (role.new ≡ role_after role.old now.0 (asked call.entry)) }
-    ensures timely { IsBy role.new now.0 }
+    ensures answers { IfOk result (λ a. a ≡ answers_at role.old now.moment.0 (asked call.entry)) }
+    ensures after { OnOk result (role.new ≡ role_after role.old now.moment.0 (asked call.entry)) }
+    ensures timely { IsBy role.new now.moment.0 }
 {
     let mut place = setting.place();
-    role.act(setting.alloc, &mut place, now, call)
+    role.act(setting.alloc, &mut place, now.moment, call)
 }
 
 /// Whether it has work due.
@@ -101,7 +110,8 @@ fn detach(role: &mut Role, setting: &Setting<'_>) -> Result<(), Memory>
     ensures timely { IsBy role.new 0 }
 {
     if role.is_roaming() {
-        act(role, setting, Moment(0), Call::Leave)?;
+        let first = TurnMoment { moment: Moment(0) };
+        act(role, setting, first, Call::Leave)?;
     }
     Ok(())
 }

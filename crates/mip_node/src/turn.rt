@@ -1,6 +1,6 @@
 //! A turn of a node: the moment, due work, payloads, and what comes over the link.
 
-ghost use Rattle.std.specs.Prelude.{◌≡◌, ◌<◌, ◌^◌, ◌⊎◌, IfOk, IfSome, OnOk, OnErr, IsErrOf, drop, option_map};
+ghost use Rattle.std.specs.Prelude.{◌≡◌, ◌⊎◌, IfOk, IfSome, OnOk, OnErr, IsErrOf, drop, option_map};
 ghost use Rattle.mip_outside.specs.Moments.{moments_after};
 ghost use Rattle.std.specs.Result.{IsOk};
 ghost use Rattle.mip_outside.specs.LinkCalls.{EndsAtFault};
@@ -15,6 +15,7 @@ use crate::asking::act_first;
 use crate::hearing::hear;
 use crate::node::Node;
 use crate::setting::Setting;
+use crate::turn_moment::TurnMoment;
 use mip_outside::{Clock, Link, PutFault};
 use mip_words::{Bytes, Moment};
 use std::alloc::Global;
@@ -53,15 +54,14 @@ fn receive<L: Link>(
     node: &mut Node,
     setting: &Setting<'_>,
     link: &mut L,
-    now: Moment,
+    now: TurnMoment,
     datagram: Option<Bytes>,
 ) -> Result<(), PutFault>
-    requires later { IsBy node.old.role now.0 }
-    requires early { now.0 < 2 ^ 62 }
-    ensures ok { OnOk result (serving node.new (L.sent link.new) ≡ received (said setting.now) now.0 datagram (serving node.old (L.sent link.old))) }
+    requires later { IsBy node.old.role now.moment.0 }
+    ensures ok { OnOk result (serving node.new (L.sent link.new) ≡ received (said setting.now) now.moment.0 datagram (serving node.old (L.sent link.old))) }
     ensures cut { OnErr result (Between (L.sent link.old) (L.sent link.new)
-        (received (said setting.now) now.0 datagram (serving node.old (L.sent link.old))).sent) }
-    ensures timely { IsBy node.new.role now.0 }
+        (received (said setting.now) now.moment.0 datagram (serving node.old (L.sent link.old))).sent) }
+    ensures timely { IsBy node.new.role now.moment.0 }
     ensures kept { (L.coming link.new ≡ L.coming link.old) × (L.port link.new ≡ L.port link.old) }
     ensures calls { EndsAtFault (IsOk result) (IsErrOf result PutFault.Failed) (IsErrOf result PutFault.Memory) (L.calls link.old) (L.calls link.new) }
     ensures faults { CountsFaults (IsErrOf result PutFault.Failed) (L.faults link.old) (L.faults link.new) }
@@ -93,7 +93,9 @@ pub fn turn<C: Clock, L: Link>(
     ensures calls { EndsAtFault (IsOk result) (IsErrOf result PutFault.Failed) (IsErrOf result PutFault.Memory) (L.calls link.old) (L.calls link.new) }
     ensures faults { CountsFaults (IsErrOf result PutFault.Failed) (L.faults link.old) (L.faults link.new) }
 {
-    let now = Moment(clock.now());
+    let now = TurnMoment {
+        moment: Moment(clock.now()),
+    };
     act_first(node, setting, link, turn, now)?;
     let datagram = next_datagram(setting.alloc, link)?;
     receive(node, setting, link, now, datagram)

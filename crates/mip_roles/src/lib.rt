@@ -2,6 +2,7 @@
 #![tactic(auto)]
 
 mod agent;
+mod binding_numbers;
 mod call;
 mod call_at;
 mod correspondent;
@@ -16,6 +17,7 @@ mod place;
 mod role;
 mod router;
 
+pub use binding_numbers::BindingNumbers;
 pub use call::Call;
 pub use call_at::CallAt;
 pub use host::Host;

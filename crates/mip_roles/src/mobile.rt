@@ -21,7 +21,7 @@ use crate::call_at::CallAt;
 use crate::idle::idle;
 use crate::place::NetPlace;
 use mip_entries::Answers;
-use mip_mobile_calls::{CallContext, address_under};
+use mip_mobile_calls::{CallContext, Data, address_under};
 use mip_outside::Claim;
 use mip_words::{Memory, Prefix};
 use std::alloc::Global;
@@ -88,7 +88,7 @@ fn handle(
             packet,
         } => mip_mobile_calls::take(alloc, context, number, shield, packet),
         Call::Send { to, proto, payload } => {
-            mip_mobile_calls::send(alloc, context, to, proto, payload)
+            mip_mobile_calls::send(alloc, context, to, &Data { proto, payload })
         }
         Call::Refresh { home } => mip_mobile_calls::refresh(alloc, context, home),
         Call::Tick => mip_mobile_calls::tick(alloc, context),

@@ -17,6 +17,7 @@ ghost use Rattle.mip_roles.specs.Calls.{asked, IsAskable};
 ghost use Rattle.mip_roles.specs.Places.{around_seen};
 ghost use Rattle.mip_roles.specs.Roles.{or_idle, or_same};
 
+use crate::binding_numbers::BindingNumbers;
 use crate::call_at::CallAt;
 use crate::mobile;
 use crate::place::NetPlace;
@@ -54,14 +55,12 @@ impl MobileRole {
         home: Address,
         agent: Option<Address>,
         secrets: Secrets,
-        numbers: u8,
+        numbers: BindingNumbers,
     ) -> Result<MobileRole, Memory>
         requires home { is_routable home.0 ≡ true }
-        requires some { 1 ≤ numbers }
-        requires few { numbers ≤ 8 }
-        ensures { IfOk result (λ r. r ≡ fresh home agent numbers secrets) }
+        ensures { IfOk result (λ r. r ≡ fresh home agent numbers.count secrets) }
     {
-        let context = CallContext::open(alloc, home, agent, secrets, numbers)?;
+        let context = CallContext::open(alloc, home, agent, secrets, numbers.count)?;
         Ok(MobileRole {
             context,
             failed: false,

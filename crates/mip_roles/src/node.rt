@@ -5,6 +5,7 @@ ghost use Rattle.mip_roles.specs.Hosts.{IsFit};
 ghost use Rattle.mip_roles.specs.Nodes.{new_node, with_role, with_spot, reborn, around_node, home_of_node, router_of, seen_router};
 ghost use Rattle.mip_roles.specs.Roles.{is_roaming, last_of, answers_to, after_call, due_of, rows_of, homes_of, lives_in};
 
+use crate::binding_numbers::BindingNumbers;
 use crate::call::Call;
 use crate::host::Host;
 use crate::place::NetPlace;
@@ -47,12 +48,10 @@ impl Node {
         node: NodeId,
         spot: Option<LinkId>,
         host: Host,
-        numbers: u8,
+        numbers: BindingNumbers,
     ) -> Result<Node, Memory>
         requires host { IsFit host }
-        requires some { 1 ≤ numbers }
-        requires few { numbers ≤ 8 }
-        ensures { IfOk result (λ c. c ≡ new_node seed.now numbers node.0 (option_map (λ l. l.0) spot) host) }
+        ensures { IfOk result (λ c. c ≡ new_node seed.now numbers.count node.0 (option_map (λ l. l.0) spot) host) }
     {
         let role = Role::new(alloc, seed, node, 0, host.address(), host.kind(), numbers)?;
         Ok(Node {
@@ -70,12 +69,10 @@ impl Node {
         alloc: Global,
         seed: &[u8; 32],
         node: NodeId,
-        numbers: u8,
+        numbers: BindingNumbers,
     ) -> Result<(), Memory>
         requires life { self.old.life + 1 < 2 ^ 32 }
-        requires some { 1 ≤ numbers }
-        requires few { numbers ≤ 8 }
-        ensures ok { OnOk result (self.new ≡ reborn seed.now numbers node.0 self.old) }
+        ensures ok { OnOk result (self.new ≡ reborn seed.now numbers.count node.0 self.old) }
         ensures err { OnErr result (self.new ≡ self.old) }
     {
         let life = self.life + 1;

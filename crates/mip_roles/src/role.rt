@@ -7,6 +7,7 @@ ghost use Rattle.mip_roles.specs.Ends.{present_of, agent_of, is_bound_to, held_b
 ghost use Rattle.mip_roles.specs.Places.{around_seen};
 ghost use Rattle.mip_roles.specs.Roles.{last_of, answers_to, after_call, due_of, rows_of, homes_of, lives_in, is_roaming, new_role};
 
+use crate::binding_numbers::BindingNumbers;
 use crate::call::Call;
 use crate::call_at::CallAt;
 use crate::kind::Kind;
@@ -65,16 +66,14 @@ fn new_correspondent(
     own: Address,
     secrets: Secrets,
     room: u32,
-    numbers: u8,
+    numbers: BindingNumbers,
 ) -> Result<Role, Memory>
-    requires some { 1 ≤ numbers }
-    requires few { numbers ≤ 8 }
     ensures { IfOk result (λ r. r ≡
-        Role.Correspondent (record { identity = record { own = own; secrets = secrets; room = room }; known = fresh room numbers })) }
+        Role.Correspondent (record { identity = record { own = own; secrets = secrets; room = room }; known = fresh room numbers.count })) }
 {
-    match room.checked_mul(u32::from(numbers)) {
+    match room.checked_mul(u32::from(numbers.count)) {
         Some(_rows) => {
-            let role = Correspondent::new(alloc, own, secrets, room, numbers)?;
+            let role = Correspondent::new(alloc, own, secrets, room, numbers.count)?;
             Ok(Role::Correspondent(role))
         }
         None => Err(Memory),
@@ -91,12 +90,10 @@ impl Role {
         life: u32,
         own: Address,
         kind: &Kind,
-        numbers: u8,
+        numbers: BindingNumbers,
     ) -> Result<Role, Memory>
         requires kind { IsFitKind own (kind_of kind.now) }
-        requires some { 1 ≤ numbers }
-        requires few { numbers ≤ 8 }
-        ensures { IfOk result (λ r. r ≡ new_role seed.now numbers node.0 life own (kind_of kind.now)) }
+        ensures { IfOk result (λ r. r ≡ new_role seed.now numbers.count node.0 life own (kind_of kind.now)) }
     {
         match kind {
             Kind::Correspondent { room } => {

@@ -10,6 +10,7 @@ ghost use Rattle.mip_engine.specs.Arrivals.{arrival_of, arrival_seen};
 ghost use Rattle.mip_engine.specs.Engines.{with_net, claim_tried, released};
 
 use crate::arrival::{Arrival, arrival_of};
+use crate::claimer::Claimer;
 use crate::claims::{claimed, taken};
 use crate::engine::Engine;
 use crate::handing::handed_in;
@@ -130,15 +131,15 @@ impl Engine {
     #[tactic(auto, using(crate::proofs::ClaimLaws::claimed_entry, crate::proofs::ClaimLaws::taken_entry, crate::proofs::ClaimLaws::never_unlinked))]
     pub(crate) fn take_claim(
         &mut self,
-        who: Holder,
+        by: Claimer,
         link: LinkId,
         address: Address,
     ) -> Result<Entry, Memory>
-        requires who { holder_number who < 40 }
         requires link { link_of self.old.net.links address.0 ≡ Some link.0 }
-        ensures entry { IfOk result (λ x. x ≡ claim_entry (holder_number who) address link.0 (holder_of self.old.net.rows address.0)) }
-        ensures after { OnOk result (self.new ≡ with_net (claim_tried self.old.net (holder_number who) address) self.old) }
+        ensures entry { IfOk result (λ x. x ≡ claim_entry (holder_number by.who) address link.0 (holder_of self.old.net.rows address.0)) }
+        ensures after { OnOk result (self.new ≡ with_net (claim_tried self.old.net (holder_number by.who) address) self.old) }
     {
+        let who = by.who;
         match self.net.claim(who, address) {
             Ok(()) => Ok(claimed(who.number(), link, address)),
             Err(ClaimFault::Taken { by }) => Ok(taken(who.number(), link, address, by.number())),
@@ -148,12 +149,11 @@ impl Engine {
     }
 
     /// Somebody takes an address on a link, which nobody has.
-    pub(crate) fn take_free(&mut self, who: Holder, address: Address) -> Result<(), Memory>
-        requires who { holder_number who < 40 }
-        requires free { refusal self.old.net (holder_number who) address.0 ≡ None }
-        ensures { OnOk result (self.new ≡ with_net (claimed self.old.net (holder_number who) address) self.old) }
+    pub(crate) fn take_free(&mut self, by: Claimer, address: Address) -> Result<(), Memory>
+        requires free { refusal self.old.net (holder_number by.who) address.0 ≡ None }
+        ensures { OnOk result (self.new ≡ with_net (claimed self.old.net (holder_number by.who) address) self.old) }
     {
-        match self.net.claim(who, address) {
+        match self.net.claim(by.who, address) {
             Ok(()) => Ok(()),
             Err(ClaimFault::Memory) => Err(Memory),
             Err(_) => unreachable!(),

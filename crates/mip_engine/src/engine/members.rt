@@ -9,10 +9,11 @@ ghost use Rattle.mip_roles.specs.Roles.{due_of, homes_of, is_roaming, rows_of};
 ghost use Rattle.mip_roles.specs.Nodes.{NodeSeen, router_of, seen_router};
 ghost use Rattle.mip_engine.specs.Engines.{IsFree, answers_of, acted, reborn, stood, joined, station_of, lives_at};
 
+use crate::claimer::Claimer;
 use crate::engine::Engine;
 use mip_entries::{Answers, Entry};
 use mip_nonce::Secrets;
-use mip_roles::{Call, HomeRow, Host, Node, Router};
+use mip_roles::{BindingNumbers, Call, HomeRow, Host, Node, Router};
 use mip_schedule::numbers_of;
 use mip_words::{Address, Holder, LinkId, Memory, Moment, NodeId};
 use std::alloc::Global;
@@ -120,7 +121,10 @@ impl Engine {
         ensures { (c : NodeSeen) → slice_get self.old.nodes node.0 ≡ Some c → OnOk result (self.new ≡ reborn node.0 c self.old) }
     {
         let place = usize::from(node.0);
-        self.nodes[place].begin_life(alloc, &self.seed, node, numbers_of(self.version))
+        let numbers = BindingNumbers {
+            count: numbers_of(self.version),
+        };
+        self.nodes[place].begin_life(alloc, &self.seed, node, numbers)
     }
 
     /// What a node draws its secrets from in its present life.
@@ -176,20 +180,20 @@ impl Engine {
         let Some(link) = self.net.link_of(address) else {
             unreachable!()
         };
-        let node = Node::new(
-            alloc,
-            &self.seed,
-            NodeId(number),
-            Some(link),
-            host,
-            numbers_of(self.version),
-        )?;
+        let id = NodeId(number);
+        let numbers = BindingNumbers {
+            count: numbers_of(self.version),
+        };
+        let node = Node::new(alloc, &self.seed, id, Some(link), host, numbers)?;
         self.nodes.push(node)?;
         self.recorder.push(Entry::Claimed {
             who: number,
             link,
             address,
         })?;
-        self.take_free(Holder::Node(NodeId(number)), address)
+        let by = Claimer {
+            who: Holder::Node(id),
+        };
+        self.take_free(by, address)
     }
 }

@@ -13,7 +13,7 @@ returns-in_ok-refuse-in-Err-clause-shows c = λ t shows.
     let now = c.args.context.now.moment.0 in
     let cache = c.args.context.now.cache.now in
     subst (λ (u : Transition). Shows now cache c.refuse.new.answers u)
-    (sym (receives-checked me c.args.context.now.number c.args.bytes.now (tree c.args.packet.now) now cache c.args.answers.now t c.args.packet.now.place c.standing.result (Err c.in-Err.refusal) shows c.requires.read c.requires.placed c.standing.ensures c.in-Err.ensures.exact))
+    (sym (receives-checked me c.args.context.now.number c.args.arrived.now.bytes.now (tree c.args.arrived.now.packet) now cache c.args.answers.now t c.args.arrived.now.packet.place c.standing.result (Err c.in-Err.refusal) shows c.args.arrived.now.read c.args.arrived.now.placed c.standing.ensures c.in-Err.ensures.exact))
     (c.in_ok-refuse-in-Err.ensures cache t shows)
 
 pub returns-in-Ok-clause-shows : goal.returns-in-Ok-clause-shows
@@ -22,5 +22,5 @@ returns-in-Ok-clause-shows c = λ t shows.
     let now = c.args.context.now.moment.0 in
     let cache = c.args.context.now.cache.now in
     subst (λ (u : Transition). IfOk c.answer_role.result (λ kept. Shows now (with_kept now kept cache) c.answer_role.new.answers u))
-    (sym (receives-checked me c.args.context.now.number c.args.bytes.now (tree c.args.packet.now) now cache c.args.answers.now t c.args.packet.now.place c.standing.result (Ok (option_map said c.in-Ok.message)) shows c.requires.read c.requires.placed c.standing.ensures c.in-Ok.ensures.exact))
+    (sym (receives-checked me c.args.context.now.number c.args.arrived.now.bytes.now (tree c.args.arrived.now.packet) now cache c.args.answers.now t c.args.arrived.now.packet.place c.standing.result (Ok (option_map said c.in-Ok.message)) shows c.args.arrived.now.read c.args.arrived.now.placed c.standing.ensures c.in-Ok.ensures.exact))
     (c.answer_role.ensures.shows t shows)

@@ -13,7 +13,7 @@ use Rattle.mip_mobile_calls.proofs.receiving.take_bytes.Goals as goal
 pub returns-in-Err : goal.returns-in-Err
 unfolding takes
 returns-in-Err c = λ t shows.
-    let h = c.args.handed.now in
+    let h = c.args.arrival.now in
     let bytes = c.args.bytes.now in
     subst (λ (r : Result Packet NotPacket). OnOk c.drop_packet.result (Shows c.drop_packet.new.self (receives h.number h.shield bytes r t))) (sym c.in-Err.ensures.exact)
     (subst (λ (w : Why). OnOk c.drop_packet.result (Shows c.drop_packet.new.self (noted (Drops h.number w) t))) c.packet_why.ensures (c.drop_packet.ensures t shows))
@@ -22,7 +22,7 @@ pub returns-in-Ok : goal.returns-in-Ok
 unfolding takes
 returns-in-Ok c =
     let d = c.args.context.now in
-    let h = c.args.handed.now in
+    let h = c.args.arrival.now in
     let bytes = c.args.bytes.now in
     from-context d (λ t. OnOk c.take_packet.result (Shows c.take_packet.new.context (takes h.number h.shield bytes t)))
     (λ steps shows. subst (λ (r : Result Packet NotPacket). OnOk c.take_packet.result (Shows c.take_packet.new.context (receives h.number h.shield bytes r (transition_at d steps))))

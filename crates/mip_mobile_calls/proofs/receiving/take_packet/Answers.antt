@@ -11,24 +11,24 @@ use Rattle.mip_rules_mobile.specs.ReceivingRules.{after_checks}
 use Rattle.mip_mobile_registration.specs.Seen.{Shows}
 use Rattle.mip_mobile_calls.proofs.receiving.take_packet.Goals as goal
 
-pub take_passed-requires-clause-read : goal.take_passed-requires-clause-read
-take_passed-requires-clause-read c =
-    checked-in c.standing_of.result c.args.packet.now.place (tree c.args.packet.now) (option_map said c.in-Ok.message) c.in-Ok.ensures.exact
+pub invariant_of-checked-clause-read : goal.invariant_of-checked-clause-read
+invariant_of-checked-clause-read c =
+    checked-in c.standing_of.result c.args.arrived.now.packet.place (tree c.args.arrived.now.packet) (option_map said c.in-Ok.message) c.in-Ok.ensures.exact
 
 pub returns-in-Err : goal.returns-in-Err
 returns-in-Err c = λ t shows.
-    let h = c.args.handed.now in
-    let p = tree c.args.packet.now in
-    let bytes = c.args.bytes.now in
+    let h = c.args.arrival.now in
+    let p = tree c.args.arrived.now.packet in
+    let bytes = c.args.arrived.now.bytes.now in
     subst (λ (r : Result (Option Said) Refusal). OnOk c.refuse.result (Shows c.refuse.new.context (after_checks h.number h.shield bytes p r t)))
-    (sym c.in-Err.ensures.exact ∙ ap (λ (n : ℕ). checked c.standing_of.result n p) c.requires.placed ∙ ap (λ (s : AddressMatch). checked s (place_in bytes p) p) c.standing_of.ensures)
+    (sym c.in-Err.ensures.exact ∙ ap (λ (n : ℕ). checked c.standing_of.result n p) c.args.arrived.now.placed ∙ ap (λ (s : AddressMatch). checked s (place_in bytes p) p) c.standing_of.ensures)
     (c.refuse.ensures t shows)
 
 pub returns-in-Ok : goal.returns-in-Ok
 returns-in-Ok c = λ t shows.
-    let h = c.args.handed.now in
-    let p = tree c.args.packet.now in
-    let bytes = c.args.bytes.now in
+    let h = c.args.arrival.now in
+    let p = tree c.args.arrived.now.packet in
+    let bytes = c.args.arrived.now.bytes.now in
     subst (λ (r : Result (Option Said) Refusal). OnOk c.take_passed.result (Shows c.take_passed.new.context (after_checks h.number h.shield bytes p r t)))
-    (sym c.in-Ok.ensures.exact ∙ ap (λ (n : ℕ). checked c.standing_of.result n p) c.requires.placed ∙ ap (λ (s : AddressMatch). checked s (place_in bytes p) p) c.standing_of.ensures)
+    (sym c.in-Ok.ensures.exact ∙ ap (λ (n : ℕ). checked c.standing_of.result n p) c.args.arrived.now.placed ∙ ap (λ (s : AddressMatch). checked s (place_in bytes p) p) c.standing_of.ensures)
     (c.take_passed.ensures bytes t shows)

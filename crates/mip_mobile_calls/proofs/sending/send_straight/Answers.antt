@@ -18,11 +18,11 @@ returns c =
     let home = home_of d.known in
     let careof = c.args.careof in
     let to = c.args.to in
-    let proto = c.args.proto in
+    let proto = c.args.data.now.proto in
     let held = held_of d.known.part.known d.moment to in
-    from-context d (λ t. OnOk c.put.result (Shows c.put.new.self (transmits_from (Away careof) (Some c.args.row) to proto c.args.payload.now t)))
-    (λ steps shows. c.put.ensures (SendsData home careof to held proto c.args.payload.now) (transition_at d steps) tt refl
+    from-context d (λ t. OnOk c.put.result (Shows c.put.new.self (transmits_from (Away careof) (Some c.args.row) to proto c.args.data.now.payload.now t)))
+    (λ steps shows. c.put.ensures (SendsData home careof to held proto c.args.data.now.payload.now) (transition_at d steps) tt refl
     (c.in_ok-packet.ensures.bytes
-    ∙ ap (λ (h : Head). data_packet h c.args.payload.now)
+    ∙ ap (λ (h : Head). data_packet h c.args.data.now.payload.now)
     (c.data_head-head.ensures.head ∙ ap (λ (a : Address). data_head a careof to proto c.held_of-held.result) c.home.ensures.value ∙ ap (λ (o : Option Address). data_head home careof to proto o) c.held_of-held.ensures.value))
     shows)

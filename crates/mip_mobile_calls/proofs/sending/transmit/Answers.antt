@@ -12,8 +12,8 @@ unfolding transmits
 returns c =
     let d = c.args.context.now in
     let to = c.args.to in
-    let proto = c.args.proto in
-    let payload = c.args.payload.now in
+    let proto = c.args.data.now.proto in
+    let payload = c.args.data.now.payload.now in
     from-context d (λ t. OnOk c.transmit_from.result (Shows c.transmit_from.new.context (transmits to proto payload t)))
     (λ steps shows. subst (λ (s : Attachment). OnOk c.transmit_from.result (Shows c.transmit_from.new.context (transmits_from s (bound_row_of d.known d.moment to) to proto payload (transition_at d steps)))) c.standing-standing.ensures
     (subst (λ (o : Option ℕ). OnOk c.transmit_from.result (Shows c.transmit_from.new.context (transmits_from c.standing-standing.result o to proto payload (transition_at d steps)))) c.bound_row_of-row.ensures.row

@@ -11,8 +11,8 @@ pub returns-in-Some : goal.returns-in-Some
 unfolding opens
 returns-in-Some c =
     let d = c.args.context.now in
-    let h = c.args.handed.now in
-    let p = tree c.args.packet.now in
+    let h = c.args.arrival.now in
+    let p = tree c.args.outer.now.packet in
     from-context d (λ t. OnOk c.open_from.result (Shows c.open_from.new.context (opens h.number h.shield p t)))
     (λ steps shows. subst (λ (o : Option Address). OnOk c.open_from.result (Shows c.open_from.new.context (opens_from o h.number h.shield p (transition_at d steps))))
     (sym c.in-Some.is ∙ c.agent.ensures) (c.open_from.ensures (transition_at d steps) shows))
@@ -21,8 +21,8 @@ pub returns-in-None : goal.returns-in-None
 unfolding opens
 returns-in-None c =
     let d = c.args.context.now in
-    let h = c.args.handed.now in
-    let p = tree c.args.packet.now in
+    let h = c.args.arrival.now in
+    let p = tree c.args.outer.now.packet in
     from-context d (λ t. OnOk c.drop_packet.result (Shows c.drop_packet.new.self (opens h.number h.shield p t)))
     (λ steps shows. subst (λ (o : Option Address). OnOk c.drop_packet.result (Shows c.drop_packet.new.self (opens_from o h.number h.shield p (transition_at d steps))))
     (sym c.in-None.is ∙ c.agent.ensures) (c.drop_packet.ensures (transition_at d steps) shows))

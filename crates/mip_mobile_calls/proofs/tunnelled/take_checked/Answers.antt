@@ -1,5 +1,5 @@
 use Rattle.std.proofs.Common.{ℕ, sym, ap, ◌∙◌, subst, OnOk}
-use Rattle.std.specs.Prelude.{Bool, Option, Result, option_map}
+use Rattle.std.specs.Prelude.{Option, Result, option_map}
 use Rattle.mip_ipv6.specs.Packet.{packet as tree}
 use Rattle.mip_mobhdr.specs.Said.{Said, said}
 use Rattle.mip_reception.specs.declared.refusal.Refusal.{Refusal}
@@ -7,28 +7,28 @@ use Rattle.mip_reception.specs.declared.address_match.AddressMatch.{AddressMatch
 use Rattle.mip_reception.specs.Checks.{checked}
 use Rattle.mip_rules_correspondent.specs.Rules.{place_in}
 use Rattle.mip_rules_mobile.proofs.Checks.{checked-in}
-use Rattle.mip_rules_mobile.specs.ReceivingRules.{by_role, after_inner_checks}
+use Rattle.mip_rules_mobile.specs.ReceivingRules.{after_inner_checks}
 use Rattle.mip_mobile_registration.specs.Seen.{Shows}
 use Rattle.mip_mobile_calls.proofs.tunnelled.take_checked.Goals as goal
 
-pub take_role-requires-clause-read : goal.take_role-requires-clause-read
-take_role-requires-clause-read c =
-    checked-in c.inner_standing.result c.args.packet.now.place (tree c.args.packet.now) (option_map said c.in-Ok.message) c.in-Ok.ensures.exact
+pub invariant_of-checked-clause-read : goal.invariant_of-checked-clause-read
+invariant_of-checked-clause-read c =
+    checked-in c.inner_standing.result c.args.inner.now.packet.place (tree c.args.inner.now.packet) (option_map said c.in-Ok.message) c.in-Ok.ensures.exact
 
 pub returns-in-Err : goal.returns-in-Err
 returns-in-Err c = λ t shows.
-    let h = c.args.handed.now in
-    let p = tree c.args.packet.now in
-    let bytes = c.args.bytes.now in
+    let h = c.args.arrival.now in
+    let p = tree c.args.inner.now.packet in
+    let bytes = c.args.inner.now.bytes.now in
     subst (λ (r : Result (Option Said) Refusal). OnOk c.refuse.result (Shows c.refuse.new.context (after_inner_checks h.number h.shield bytes p r t)))
-    (sym c.in-Err.ensures.exact ∙ ap (λ (n : ℕ). checked c.inner_standing.result n p) c.requires.placed ∙ ap (λ (s : AddressMatch). checked s (place_in bytes p) p) c.inner_standing.ensures)
+    (sym c.in-Err.ensures.exact ∙ ap (λ (n : ℕ). checked c.inner_standing.result n p) c.args.inner.now.placed ∙ ap (λ (s : AddressMatch). checked s (place_in bytes p) p) c.inner_standing.ensures)
     (c.refuse.ensures t shows)
 
 pub returns-in-Ok : goal.returns-in-Ok
 returns-in-Ok c = λ t shows.
-    let h = c.args.handed.now in
-    let p = tree c.args.packet.now in
-    let bytes = c.args.bytes.now in
+    let h = c.args.arrival.now in
+    let p = tree c.args.inner.now.packet in
+    let bytes = c.args.inner.now.bytes.now in
     subst (λ (r : Result (Option Said) Refusal). OnOk c.take_role.result (Shows c.take_role.new.context (after_inner_checks h.number h.shield bytes p r t)))
-    (sym c.in-Ok.ensures.exact ∙ ap (λ (n : ℕ). checked c.inner_standing.result n p) c.requires.placed ∙ ap (λ (s : AddressMatch). checked s (place_in bytes p) p) c.inner_standing.ensures)
-    (subst (λ (b : Bool). OnOk c.take_role.result (Shows c.take_role.new.context (by_role h.number b h.shield p (option_map said c.in-Ok.message) t))) c.requires.tunnelled (c.take_role.ensures t shows))
+    (sym c.in-Ok.ensures.exact ∙ ap (λ (n : ℕ). checked c.inner_standing.result n p) c.args.inner.now.placed ∙ ap (λ (s : AddressMatch). checked s (place_in bytes p) p) c.inner_standing.ensures)
+    (c.take_role.ensures t shows)

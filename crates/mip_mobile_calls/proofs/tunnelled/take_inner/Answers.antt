@@ -12,9 +12,9 @@ use Rattle.mip_mobile_calls.proofs.tunnelled.take_inner.Goals as goal
 pub returns-in-Some : goal.returns-in-Some
 returns-in-Some c =
     let d = c.args.context.now in
-    let h = c.args.handed.now in
-    let p = tree c.args.packet.now in
-    let bytes = c.args.bytes.now in
+    let h = c.args.arrival.now in
+    let p = tree c.args.inner.now.packet in
+    let bytes = c.args.inner.now.bytes.now in
     from-context d (λ t. OnOk c.drop_packet.result (Shows c.drop_packet.new.self (takes_inner h.number h.shield bytes p t)))
     (λ steps shows. subst (λ (u : Transition). OnOk c.drop_packet.result (Shows c.drop_packet.new.self u))
     (inner-dropped h.number h.shield bytes p (transition_at d steps) c.in-Some.why
@@ -24,9 +24,9 @@ returns-in-Some c =
 pub returns-in-None : goal.returns-in-None
 returns-in-None c =
     let d = c.args.context.now in
-    let h = c.args.handed.now in
-    let p = tree c.args.packet.now in
-    let bytes = c.args.bytes.now in
+    let h = c.args.arrival.now in
+    let p = tree c.args.inner.now.packet in
+    let bytes = c.args.inner.now.bytes.now in
     from-context d (λ t. OnOk c.take_checked.result (Shows c.take_checked.new.context (takes_inner h.number h.shield bytes p t)))
     (λ steps shows. subst (λ (u : Transition). OnOk c.take_checked.result (Shows c.take_checked.new.context u))
     (inner-checked h.number h.shield bytes p (transition_at d steps)

@@ -6,15 +6,10 @@ use Rattle.mip_mobile_context.specs.Outgoing.{CanEnter}
 use Rattle.mip_mobile_context.proofs.Entering.{init-enters}
 use Rattle.mip_mobile_context.proofs.outgoing.ask_home.Goals as goal
 
-pub go_out-requires-clause-hop : goal.go_out-requires-clause-hop
-go_out-requires-clause-hop c =
-    let enters = subst CanEnter (sym c.in_ok-packet.ensures.bytes) (init-enters c.home.result c.args.peer c.args.cookie.0) in enters.1
-
-pub go_out-requires-clause-fits : goal.go_out-requires-clause-fits
-go_out-requires-clause-fits c =
-    let enters = subst CanEnter (sym c.in_ok-packet.ensures.bytes) (init-enters c.home.result c.args.peer c.args.cookie.0) in enters.2
+pub invariant_of-packet : goal.invariant_of-packet
+invariant_of-packet c = record { enters = subst CanEnter (sym c.in_ok-bytes.ensures.bytes) (init-enters c.home.result c.args.peer c.args.cookie.0) }
 
 pub returns : goal.returns
 returns c = λ t shows.
     c.go_out.ensures (AsksHome c.args.peer c.args.cookie.0) t refl
-    (c.in_ok-packet.ensures.bytes ∙ ap (λ (h : Address). home_init_packet h c.args.peer c.args.cookie.0) c.home.ensures.value) shows
+    (c.in_ok-bytes.ensures.bytes ∙ ap (λ (h : Address). home_init_packet h c.args.peer c.args.cookie.0) c.home.ensures.value) shows

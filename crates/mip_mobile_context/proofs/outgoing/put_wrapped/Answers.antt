@@ -14,5 +14,5 @@ returns c = λ inner t signals packet shows.
     ∙ ap (λ (b : Bool). if b then shield_to c.home.result c.args.agent else None) signals
     ∙ ap (λ (h : Address). if is_signal inner then shield_to h c.args.agent else None) c.home.ensures.value)
     (c.in_ok-bytes.ensures
-    ∙ ap (λ (p : List ℕ). encapsulated c.args.careof c.args.agent p) (c.as_slice.ensures ∙ packet))
+    ∙ ap (λ (p : List ℕ). encapsulated c.args.careof c.args.agent p) packet)
     shows

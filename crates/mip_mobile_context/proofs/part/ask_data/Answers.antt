@@ -10,5 +10,5 @@ use Rattle.mip_mobile_context.proofs.part.ask_data.Goals as goal
 pub returns : goal.returns
 returns c = λ t shows.
     subst (λ (u : Transition). OnOk c.pass_all.result (Shows c.pass_all.new.context u))
-    (asks-by (parts.Send c.args.to c.args.proto c.args.payload.now) t c.args.context.now.known c.args.context.now.moment c.in_ok-answers.answers (shows-known c.args.context.now t shows) (shows-moment c.args.context.now t shows) c.in_ok-answers.ensures.answers)
-    (c.pass_all.ensures (noted (Parts (parts.Send c.args.to c.args.proto c.args.payload.now)) t) (c.in_ok-answers.ensures.shows t shows))
+    (asks-by (parts.Send c.args.to c.args.data.now.proto c.args.data.now.payload.now) t c.args.context.now.known c.args.context.now.moment c.in_ok-answers.answers (shows-known c.args.context.now t shows) (shows-moment c.args.context.now t shows) c.in_ok-answers.ensures.answers)
+    (c.pass_all.ensures (noted (Parts (parts.Send c.args.to c.args.data.now.proto c.args.data.now.payload.now)) t) (c.in_ok-answers.ensures.shows t shows))

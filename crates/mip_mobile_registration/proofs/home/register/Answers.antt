@@ -12,7 +12,7 @@ pub returns-in-Some : goal.returns-in-Some
 returns-in-Some c = λ t shows.
     let known = shows-known c.args.context.now t shows in
     subst (λ (u : Transition). OnOk c.register_with.result (Shows c.register_with.new.context u))
-    (registers-some c.args.careof c.in-Some.agent c.wait_behind-wait.result t c.args.context.now.known known (sym c.target.ensures ∙ c.in-Some.is) (c.wait_behind-wait.ensures.value ∙ ap (λ (o : Option HomeUpdate). wait_behind o) c.latest.ensures.value))
+    (registers-some c.args.careof c.in-Some.agent c.wait_behind-wait.result t c.args.context.now.known known (sym c.target.ensures ∙ c.in-Some.is) (c.wait_behind-wait.ensures ∙ ap (λ (o : Option HomeUpdate). wait_behind o) c.latest.ensures.value))
     (c.register_with.ensures t shows)
 
 pub returns-in-None : goal.returns-in-None

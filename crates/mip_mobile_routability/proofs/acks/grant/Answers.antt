@@ -16,8 +16,8 @@ pub returns : goal.returns
 unfolding is_granted
 returns c = λ u t is shows.
     let acked = c.acknowledge_trial.ensures _ (c.stop.ensures t shows) in
-    let moment = ap (λ (v : Transition). v.now) (noted_all-is after (Stops (Resend c.args.row) ∷ Tries c.args.row (Acknowledge c.args.sequence c.args.lifetime) ∷ []) t) in
+    let moment = ap (λ (v : Transition). v.now) (noted_all-is after (Stops (Resend c.args.waiting.now.at.row) ∷ Tries c.args.waiting.now.at.row (Acknowledge c.args.sequence c.args.lifetime) ∷ []) t) in
     let still = subst (λ (n : ℕ). IsOf c.args.waiting.now n u) (sym moment) is in
-    subst (λ (o : Option Address). OnOk c.end.result (Shows c.end.new.context (ends_for o u c.args.row c.args.lifetime
-    (noted (Tries c.args.row (Acknowledge c.args.sequence c.args.lifetime)) (noted (Stops (Resend c.args.row)) t))))) is.binds_to
+    subst (λ (o : Option Address). OnOk c.end.result (Shows c.end.new.context (ends_for o u c.args.waiting.now.at.row c.args.lifetime
+    (noted (Tries c.args.waiting.now.at.row (Acknowledge c.args.sequence c.args.lifetime)) (noted (Stops (Resend c.args.waiting.now.at.row)) t))))) is.binds_to
     (c.end.ensures u _ still acked)

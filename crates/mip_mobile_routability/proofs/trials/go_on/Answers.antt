@@ -17,11 +17,11 @@ returns-in_ok-ask_again-in-Some-Probing c = λ t shows.
     let d = c.args.context.now in
     let u = c.in-Some-Probing.trial in
     let m = c.of-missing.result in
-    let is : trial_of d.known c.args.row ≡ Some (Probing u) = search rules in
-    let rule = λ (h : Bool) (hc : Cookie) (x : Bool) (xc : Cookie). waits c.args.row c.args.wait (asks_careof x d.known.standing c.args.peer xc.0 (asks_home h c.args.peer hc.0 t)) in
+    let is : trial_of d.known c.args.at.row ≡ Some (Probing u) = search rules in
+    let rule = λ (h : Bool) (hc : Cookie) (x : Bool) (xc : Cookie). waits c.args.at.row c.args.wait (asks_careof x d.known.standing c.args.at.peer xc.0 (asks_home h c.args.at.peer hc.0 t)) in
     let waited = c.wait_row.ensures _ (c.in_ok-ask_again-in-Some-Probing.ensures t shows) in
-    subst (λ (o : Option Any). Shows c.wait_row.new.self (goes_on o c.args.row c.args.peer c.args.wait t)) (sym is)
-    (subst (λ (k : Known). Shows c.wait_row.new.self (waits c.args.row c.args.wait (asks_careof (lacks_careof u) k.standing c.args.peer u.state.careof_cookie.0 (asks_home (lacks_home u) c.args.peer u.state.home_cookie.0 t))))
+    subst (λ (o : Option Any). Shows c.wait_row.new.self (goes_on o c.args.at.row c.args.at.peer c.args.wait t)) (sym is)
+    (subst (λ (k : Known). Shows c.wait_row.new.self (waits c.args.at.row c.args.wait (asks_careof (lacks_careof u) k.standing c.args.at.peer u.state.careof_cookie.0 (asks_home (lacks_home u) c.args.at.peer u.state.home_cookie.0 t))))
     (sym (shows-known d t shows))
     (subst (λ (xc : Cookie). Shows c.wait_row.new.self (rule (lacks_home u) u.state.home_cookie (lacks_careof u) xc)) c.of-missing.ensures.careof_cookie
     (subst (λ (x : Bool). Shows c.wait_row.new.self (rule (lacks_home u) u.state.home_cookie x m.careof_cookie)) c.of-missing.ensures.careof

@@ -14,8 +14,8 @@ use Rattle.mip_mobile_routability.proofs.trials.resend_to.Goals as goal
 pub returns : goal.returns
 returns c = λ t shows.
     let d = c.args.context.now in
-    let row = c.args.row in
-    let peer = c.args.peer in
+    let row = c.args.at.row in
+    let peer = c.args.at.peer in
     let wait : ℕ = wait_of_row d.known row in
     let other : (wait == 32000) ≡ false = search rules in
     let next : c.doubled.result ≡ doubled wait = c.doubled.ensures.value ∙ ap (λ (n : ℕ). doubled n) c.wait_of_row-wait.ensures in

@@ -13,7 +13,7 @@ pub returns-in-Some : goal.returns-in-Some
 returns-in-Some c = λ t shows.
     let d = c.args.context.now in
     let made = c.args.made.now in
-    subst (λ (o : Option Address). OnOk c.send_update.result (Shows c.send_update.new.context (sends_update o c.args.row c.args.peer made c.args.wait t)))
+    subst (λ (o : Option Address). OnOk c.send_update.result (Shows c.send_update.new.context (sends_update o c.args.at.row c.args.at.peer made c.args.wait t)))
     (sym c.in-Some.is ∙ c.source_for.ensures ∙ ap (λ (s : Attachment). source_for s c.home.result made) c.standing.ensures
     ∙ ap (λ (h : Address). source_for d.known.standing h made) c.home.ensures.value ∙ ap (λ (k : Known). source_for k.standing (home_of k) made) (sym (shows-known d t shows)))
     (c.send_update.ensures t shows)
@@ -22,7 +22,7 @@ pub returns-in-None : goal.returns-in-None
 returns-in-None c = λ t shows.
     let d = c.args.context.now in
     let made = c.args.made.now in
-    subst (λ (o : Option Address). Shows d (sends_update o c.args.row c.args.peer made c.args.wait t))
+    subst (λ (o : Option Address). Shows d (sends_update o c.args.at.row c.args.at.peer made c.args.wait t))
     (sym c.in-None.is ∙ c.source_for.ensures ∙ ap (λ (s : Attachment). source_for s c.home.result made) c.standing.ensures
     ∙ ap (λ (h : Address). source_for d.known.standing h made) c.home.ensures.value ∙ ap (λ (k : Known). source_for k.standing (home_of k) made) (sym (shows-known d t shows)))
     shows

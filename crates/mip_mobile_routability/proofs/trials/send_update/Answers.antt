@@ -13,11 +13,11 @@ use Rattle.mip_mobile_routability.proofs.trials.send_update.Goals as goal
 pub returns : goal.returns
 returns c = λ t shows.
     let k = c.args.context.now.known in
-    let update = λ (h : Address) (n : ℕ). (let u : PeerUpdate = record { home = h; source = c.args.source; peer = c.args.peer; number = n; made = c.args.made.now } in u) in
+    let update = λ (h : Address) (n : ℕ). (let u : PeerUpdate = record { home = h; source = c.args.source; peer = c.args.at.peer; number = n; made = c.args.made.now } in u) in
     let told =
     c.in_ok-packet.ensures
     ∙ ap (λ (h : Address). update_packet (update h c.binding_number.result)) c.home.ensures.value
     ∙ ap (λ (n : ℕ). update_packet (update (home_of k) n)) c.binding_number.ensures.value in
-    let sent = subst (λ (d : ContextSeen). Shows d (noted (Updates c.args.row (update (home_of k) (binding_number_of k))) t)) (sym c.keep_kbm.ensures) (c.in_ok-put_update.ensures t told shows) in
-    subst (λ (k : Known). Shows c.wait_row.new.self (noted (Waits (Resend c.args.row) c.args.wait) (noted (Updates c.args.row (update (home_of k) (binding_number_of k))) t))) (sym (shows-known c.args.context.now t shows))
+    let sent = subst (λ (d : ContextSeen). Shows d (noted (Updates c.args.at.row (update (home_of k) (binding_number_of k))) t)) (sym c.keep_kbm.ensures) (c.in_ok-put_update.ensures t told shows) in
+    subst (λ (k : Known). Shows c.wait_row.new.self (noted (Waits (Resend c.args.at.row) c.args.wait) (noted (Updates c.args.at.row (update (home_of k) (binding_number_of k))) t))) (sym (shows-known c.args.context.now t shows))
     (c.wait_row.ensures _ sent)

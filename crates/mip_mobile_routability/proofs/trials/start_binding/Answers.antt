@@ -15,8 +15,8 @@ use Rattle.mip_mobile_routability.proofs.trials.start_binding.Goals as goal
 
 pub returns : goal.returns
 returns c = λ t shows.
-    let row = c.args.row in
-    let peer = c.args.peer in
+    let row = c.args.at.row in
+    let peer = c.args.at.peer in
     let careof = c.args.careof in
     let starts_by = λ (home other : Cookie). waits row 1000 (noted (Sends (AsksCareof careof peer other.0)) (goes_out (AsksHome peer home.0) (noted (Tries row (Start (Bind careof) home other)) t))) in
     let asked = c.in_ok-ask_home.ensures _ (c.start_trial.ensures t shows) in

@@ -15,8 +15,8 @@ use Rattle.mip_mobile_routability.proofs.trials.start_deletion.Goals as goal
 
 pub returns : goal.returns
 returns c = λ t shows.
-    let row = c.args.row in
-    let peer = c.args.peer in
+    let row = c.args.at.row in
+    let peer = c.args.at.peer in
     let asked = c.in_ok-ask_home.ensures _ (c.start_trial.ensures t shows) in
     subst (λ (k : Known). Shows c.wait_row.new.self (waits row 1000 (goes_out (AsksHome peer (first_cookie k).0) (noted (Tries row (Start Delete (first_cookie k) (first_cookie k))) t))))
     (sym (shows-known c.args.context.now t shows))

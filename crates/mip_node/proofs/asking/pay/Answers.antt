@@ -10,7 +10,7 @@ pub returns-in_err-pay_one-clause-cut : goal.returns-in_err-pay_one-clause-cut
 returns-in_err-pay_one-clause-cut g c =
     let sent = g.L.Link.sent in
     err_any c.from_residual.result
-    (paid_between (said c.args.setting.now) c.args.turn c.args.now.0 (said c.args.setting.now).payloads c.as_slice-payload-items.result.now c.loop-payload.payload-index c.payload-item.result
+    (paid_between (said c.args.setting.now) c.args.turn c.args.now.moment.0 (said c.args.setting.now).payloads c.as_slice-payload-items.result.now c.loop-payload.payload-index c.payload-item.result
     (serving c.args.node.now (sent c.args.link.now)) (serving c.loop-payload.node (sent c.loop-payload.link)) (sent c.pay_one.new.link)
     c.as_slice-payload-items.ensures (omega arith) c.payload-item.is c.loop-payload.invariant.done c.in_err-pay_one.ensures.cut)
 
@@ -23,7 +23,7 @@ loop-payload-preserved g c =
     let inv = c.loop-payload.invariant in
     record {
       done = c.in_ok-pay_one.ensures.ok
-          ∙ paid_more (said c.args.setting.now) c.args.turn c.args.now.0 (said c.args.setting.now).payloads c.as_slice-payload-items.result.now c.loop-payload.payload-index c.payload-item.result
+          ∙ paid_more (said c.args.setting.now) c.args.turn c.args.now.moment.0 (said c.args.setting.now).payloads c.as_slice-payload-items.result.now c.loop-payload.payload-index c.payload-item.result
           (serving c.args.node.now (sent c.args.link.now)) (serving c.loop-payload.node (sent c.loop-payload.link)) c.as_slice-payload-items.ensures (omega arith) c.payload-item.is inv.done;
       timely = c.pay_one.ensures.timely;
       coming = c.pay_one.ensures.kept.0 ∙ inv.coming;

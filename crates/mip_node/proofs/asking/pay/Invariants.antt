@@ -9,8 +9,8 @@ use Rattle.mip_node.proofs.asking.pay.Given as goal
 abbrev pub invariant-loop-payload : goal.invariant-loop-payload
 invariant-loop-payload g l = record {
   done : serving l.node (g.L.Link.sent l.link)
-      ≡ fold (paid_one (said l.setting) l.turn l.now.0) (serving l.fn.node (g.L.Link.sent l.fn.link)) (take l.payload-index (said l.setting).payloads);
-  timely : IsBy l.node.role l.now.0;
+      ≡ fold (paid_one (said l.setting) l.turn l.now.moment.0) (serving l.fn.node (g.L.Link.sent l.fn.link)) (take l.payload-index (said l.setting).payloads);
+  timely : IsBy l.node.role l.now.moment.0;
   coming : g.L.Link.coming l.link ≡ g.L.Link.coming l.fn.link;
   port : g.L.Link.port l.link ≡ g.L.Link.port l.fn.link;
   calls : Granted (g.L.Link.calls l.fn.link) (g.L.Link.calls l.link);

@@ -7,4 +7,4 @@ use Rattle.mip_node.proofs.hearing.take.Goals as goal
 pub returns-in_err-note-clause-cut : goal.returns-in_err-note-clause-cut
 returns-in_err-note-clause-cut g c =
     err_any c.from_residual.result
-    (not_yet _ _ (taken_grew (said c.args.setting.now) c.args.now.0 c.args.number (framed c.args.frame) (serving c.args.node.now (g.L.Link.sent c.args.link.now))))
+    (not_yet _ _ (taken_grew (said c.args.setting.now) c.args.now.moment.0 c.args.number (framed c.args.frame) (serving c.args.node.now (g.L.Link.sent c.args.link.now))))

@@ -23,14 +23,16 @@ returns-in-None c =
     let none = map_none (λ (x : NodeSeen). station_of e.net.links x) (slice_get e.nodes n) (sym c.in-None.ensures.found) in
     goes_idle c.note.ensures (λ s run at. sym (acts_none e s run at n (asked c.args.call) none))
 
-pub answer-requires-clause-whole : goal.answer-requires-clause-whole
-answer-requires-clause-whole c =
+pub answer-requires : goal.answer-requires
+answer-requires c =
     let e = c.args.self.now in
     let n = c.args.node.0 in
     let found = map_some (λ (x : NodeSeen). station_of e.net.links x) (slice_get e.nodes n) c.in-Some.from.0 (sym c.in-Some.ensures.found) in
     let node = found.0 in
-    subst (λ (answers : List Answer). AllByRecursion IsWhole answers) (sym (c.in_ok-answers.ensures.answers node found.1))
-    (role_whole (around_node e.net n node) node.role e.moment (asked c.args.call) (can_ask c.args.call c.requires))
+    record {
+      whole = subst (λ (answers : List Answer). AllByRecursion IsWhole answers) (sym (c.in_ok-answers.ensures.answers node found.1))
+          (role_whole (around_node e.net n node) node.role e.moment (asked c.args.call) (can_ask c.args.call c.requires));
+    }
 
 pub returns : goal.returns
 returns c =

@@ -10,7 +10,7 @@ pub returns : goal.returns
 returns c =
     let link = c.args.link in
     let a = c.args.address in
-    let who = holder_number c.args.who in
+    let who = holder_number c.args.by.who in
     goes_to c.note.ensures
     (ap (λ (w : ℕ). with_entry (Claimed w link a) c.take_free.new.self) c.number-who.ensures ∙ ap (λ (y : EngineSeen). with_entry (Claimed who link a) y) c.in_ok-take_free.ensures) refl
-    (λ s run at. at_claimed c.args.self.now s run who link.0 a c.requires.who at)
+    (λ s run at. at_claimed c.args.self.now s run who link.0 a c.args.by.few at)

@@ -21,10 +21,10 @@ invariant_of-self-2 c =
 pub returns-clause-shows : goal.returns-clause-shows
 unfolding after
 returns-clause-shows c = λ t shows.
-    shown (Parts (parts.Send c.args.to c.args.proto c.args.payload.now)) c.args.self.now c.self.inside.moment.0 (seen c.self.inside.known) _ c.self.inside.answers c.self.inside.answers t c.self.view_is (sym (append-nil c.self.inside.answers))
+    shown (Parts (parts.Send c.args.to c.args.data.now.proto c.args.data.now.payload.now)) c.args.self.now c.self.inside.moment.0 (seen c.self.inside.known) _ c.self.inside.answers c.self.inside.answers t c.self.view_is (sym (append-nil c.self.inside.answers))
     (ap (λ (p : CorrespondentSeen). record (seen c.self.inside.known) { part = p }) c.in_ok-answers.ensures.after) shows
 
 pub returns-clause-pass : goal.returns-clause-pass
 returns-clause-pass c =
     subst (AllByRecursion CanPass) (sym c.in_ok-answers.ensures.answers)
-    (part-passes c.self.inside.known.part.identity c.self.inside.known.part.known c.self.inside.moment.0 (parts.Send c.args.to c.args.proto c.args.payload.now) c.requires.short)
+    (part-passes c.self.inside.known.part.identity c.self.inside.known.part.known c.self.inside.moment.0 (parts.Send c.args.to c.args.data.now.proto c.args.data.now.payload.now) c.args.data.now.short)

@@ -13,6 +13,6 @@ use Rattle.mip_mobile_context.proofs.call_context.CallContext.wait_row.Goals as 
 pub returns : goal.returns
 unfolding after
 returns c = λ t shows.
-    shown (Waits (works.Resend c.args.row) c.args.wait) c.args.self.now c.self.inside.moment.0 (seen c.self.inside.known) _ c.self.inside.answers c.self.inside.answers t c.self.view_is (sym (append-nil c.self.inside.answers))
+    shown (Waits (works.Resend c.args.at.row) c.args.wait) c.args.self.now c.self.inside.moment.0 (seen c.self.inside.known) _ c.self.inside.answers c.self.inside.answers t c.self.view_is (sym (append-nil c.self.inside.answers))
     (ap (λ (p : List Peer). record (seen c.self.inside.known) { list = c.set.new.self; peers = p }) c.wait.ensures
-    ∙ ap (λ (l : ListSeen). record (seen c.self.inside.known) { list = l; peers = with_peer c.args.row (waiting c.args.wait) c.self.inside.known.peers }) c.set.ensures) shows
+    ∙ ap (λ (l : ListSeen). record (seen c.self.inside.known) { list = l; peers = with_peer c.args.at.row (waiting c.args.wait) c.self.inside.known.peers }) c.set.ensures) shows

@@ -1,0 +1,16 @@
+ghost use Rattle.std.specs.Prelude.{◌≡◌, ◌≤◌, ◌<◌, ◌-◌, ◌^◌, IsTrue, length};
+ghost use Rattle.mip_ipv6.specs.Packet.{packet as tree, is_routable_if_any};
+ghost use Rattle.mip_rules_correspondent.specs.Rules.{place_in};
+
+use mip_ipv6::PacketRef;
+
+/// A packet as it was read, beside its bytes.
+#[derive(Clone, Copy)]
+pub struct ArrivedPacket<'a> {
+    pub bytes: &'a [u8],
+    pub packet: PacketRef<'a>,
+    pub ghost plain: { IsTrue (is_routable_if_any packet.head.home) },
+    pub ghost short: { length packet.body.now ≤ 65535 },
+    pub ghost placed: { packet.place ≡ place_in bytes.now (tree packet) },
+    pub ghost near: { packet.place < 2 ^ 32 - 1 },
+}
