@@ -17,6 +17,7 @@ mod moving;
 mod restarting;
 mod router;
 mod showing;
+mod standing;
 mod ticking;
 mod waiting;
 

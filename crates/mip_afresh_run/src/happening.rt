@@ -11,7 +11,7 @@ ghost use Rattle.mip_afresh_run.specs.Fitting.{CanForge, IsFit};
 ghost use Rattle.mip_afresh_run.specs.Forged.{forged};
 
 use crate::forging::forged;
-use mip_afresh::Telling;
+use mip_afresh::{Outsider, PacketBytes, Telling};
 use mip_afresh_nodes::{
     advertise, ask, carry, deliver, move_to, plan, refresh, restart, send, show, wait,
 };
@@ -33,7 +33,10 @@ fn post(
     ensures { OnOk result (telling.new ≡ with_run (injected_if telling.old.setup telling.old.run outsider link.0 (forged telling.old.run.posts event.now)) telling.old) }
 {
     match forged(alloc, telling, event)? {
-        Some(packet) => telling.inject(alloc, outsider, link, packet.as_slice()),
+        Some(packet) => {
+            let bytes = packet.as_slice();
+            telling.inject(alloc, outsider, link, PacketBytes { bytes })
+        }
         None => telling.idle(),
     }
 }
@@ -65,14 +68,23 @@ pub(crate) fn happen(alloc: Global, telling: &mut Telling, event: &Event) -> Res
             outsider,
             link,
             packet,
-        } => telling.inject(alloc, *outsider, *link, packet.as_slice()),
+        } => {
+            let bytes = packet.as_slice();
+            telling.inject(alloc, *outsider, *link, PacketBytes { bytes })
+        }
         Event::Probe { outsider, link, .. }
         | Event::Bind { outsider, link, .. }
         | Event::Tell { outsider, link, .. } => post(alloc, telling, *outsider, *link, event),
         Event::Listen { outsider, link } => telling.listen(*outsider, *link),
         Event::Deaf { outsider, link } => telling.deafen(*outsider, *link),
-        Event::Squat { outsider, address } => telling.squat(*outsider, address.get()),
-        Event::Yield { outsider, address } => telling.yield_up(*outsider, address.get()),
+        Event::Squat { outsider, address } => {
+            let outsider = Outsider { number: *outsider };
+            telling.squat(outsider, address.get())
+        }
+        Event::Yield { outsider, address } => {
+            let outsider = Outsider { number: *outsider };
+            telling.yield_up(outsider, address.get())
+        }
         Event::Deliver { number } => deliver(alloc, telling, u64::from(*number), false),
         Event::Repeat { number } => deliver(alloc, telling, u64::from(*number), true),
         Event::Lose { number } => telling.lose(u64::from(*number)),

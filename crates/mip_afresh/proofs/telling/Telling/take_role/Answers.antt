@@ -18,4 +18,4 @@ returns c =
     subst (λ (old : TellingSeen). IsTaken old (seen s base c.exchange.new.roles.items) n c.exchange.result) c.self.view_is
     (subst (λ (l : List Role). IsTaken (seen s base roles) (seen s base l) n c.exchange.result) (sym (c.exchange.ensures.new ∙ ap (λ k. slice_set roles k Plain) c.from.ensures))
     (subst (λ (r : Role). IsTaken (seen s base roles) (seen s base (slice_set roles n Plain)) n r) (sym (c.exchange.ensures.old ∙ ap (λ k. slice_index_or roles k Plain) c.from.ensures))
-    (taken s base roles n c.self.invariant.3)))
+    (taken s base roles n c.self.invariant.1)))
