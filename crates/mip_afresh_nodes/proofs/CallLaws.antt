@@ -1,5 +1,5 @@
 -- What a home agent or a mobile does that was taken out of a run, and put back, is what it does in the run.
-use Rattle.std.proofs.Common.{◌≡◌, ℕ, zero, suc, ◌<◌, ◌^◌, List, [], ◌∷◌, true, false, length, refl, sym, ap, ◌∙◌, subst, get_or-set_same}
+use Rattle.std.proofs.Common.{◌≡◌, ℕ, zero, suc, ◌<◌, List, [], ◌∷◌, true, false, length, refl, sym, ap, ◌∙◌, subst, get_or-set_same}
 use Rattle.std.specs.Prelude.{Option, Some, None, unwrap_or, slice_get, slice_set, slice_index_or}
 use Rattle.mip_words.specs.declared.address.Address.{Address}
 use Rattle.mip_nonce.specs.Secrets.{Life}
@@ -117,14 +117,8 @@ module _ (old new : TellingSeen) (n : ℕ) where
   pub agent_back : (a : AgentSeen) (call : Call) → IsTaken old new n (Agent a) → with_run (acts new.setup n call (with_agent_past n a.past new.run)) new ≡ with_run (acts old.setup n call old.run) old
   agent_back a call taken = sym (ap (λ (t : TellingSeen). with_run (acts t.setup n call t.run) t) taken.1)
 
-  pub agent_early : (a : AgentSeen) → IsTaken old new n (Agent a) → now_in old.setup old.run < 2 ^ 62 → now_in new.setup new.run < 2 ^ 62
-  agent_early a taken early = subst (λ (t : TellingSeen). now_in t.setup t.run < 2 ^ 62) taken.1 early
-
   pub mobile_back : (m : NodeSeen) (call : Call) → IsTaken old new n (Mobile m) → with_run (acts new.setup n call (with_mobile_past n m.past new.run)) new ≡ with_run (acts old.setup n call old.run) old
   mobile_back m call taken = sym (ap (λ (t : TellingSeen). with_run (acts t.setup n call t.run) t) taken.1)
-
-  pub mobile_early : (m : NodeSeen) → IsTaken old new n (Mobile m) → now_in old.setup old.run < 2 ^ 62 → now_in new.setup new.run < 2 ^ 62
-  mobile_early m taken early = subst (λ (t : TellingSeen). now_in t.setup t.run < 2 ^ 62) taken.1 early
 
   pub mobile_run : (m : NodeSeen) → IsTaken old new n (Mobile m) → IsRun old.setup old.run → IsRun new.setup (with_mobile_past n m.past new.run)
   mobile_run m taken run = subst (λ (t : TellingSeen). IsRun t.setup t.run) taken.1 run

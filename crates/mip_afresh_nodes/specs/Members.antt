@@ -1,6 +1,7 @@
 -- The correspondents of a run, and what their calls leave in it.
 use Rattle.std.specs.Prelude.{◌≡◌, ℕ, List, Some, slice_get}
 use Rattle.mip_entries.specs.declared.answer.Answer.{Answer}
+use Rattle.mip_rules_correspondent.specs.declared.identity.Identity.{Identity}
 use Rattle.mip_rules_correspondent.specs.declared.known.Known.{Known}
 use Rattle.mip_rules_correspondent.specs.Calls as correspondents
 use Rattle.mip_rules_correspondent.specs.Steps.{answers_of}
@@ -8,6 +9,7 @@ use Rattle.mip_rules_correspondent.specs.Doing.{transition_of}
 use Rattle.mip_history.specs.Setup.{Setup, Host}
 use Rattle.mip_history.specs.Setup.Kind.{Correspondent}
 use Rattle.mip_history.specs.Runs.{Run}
+use Rattle.mip_history.specs.RunsLaws.{IsRun}
 use Rattle.mip_history.specs.Questions.{life_in}
 use Rattle.mip_history.specs.Knowing.{link_or_first, now_in, identity_in, known_in}
 use Rattle.mip_history.specs.Nodes.{answered}
@@ -23,7 +25,11 @@ host_of m = record { address = m.own; kind = Correspondent m.room }
 abbrev pub IsMember : Setup → Member → Type 0
 IsMember s m = slice_get s.hosts m.node.0 ≡ Some (host_of m)
 
--- one of a run
+-- it stands in a run that is between two calls of its nodes
+pub record Stands (t : TellingSeen) (m : Member) : Type 0 where
+  pub run : IsRun t.setup t.run
+  pub member : IsMember t.setup m
+
 pub record StandingSeen : Type 0 where
   pub telling : TellingSeen
   pub member : Member
@@ -42,6 +48,9 @@ call_of s run m asked = record {
   at = record { 0 = now_in s run };
   asked = asked;
 }
+
+abbrev pub identity_at : StandingSeen → Identity
+identity_at s = identity_in s.telling.setup s.telling.run s.member.node.0 s.member.own s.member.room
 
 abbrev pub known_at : StandingSeen → Known
 known_at s = known_to s.telling.setup s.telling.run s.member

@@ -1,9 +1,9 @@
 //! What home agents do in a run.
 
-ghost use Rattle.std.specs.Prelude.{◌≡◌, ◌<◌, ◌^◌, IfOk, OnOk};
+ghost use Rattle.std.specs.Prelude.{◌≡◌, OnOk};
 ghost use Rattle.mip_history.specs.Calls as asked_for;
 ghost use Rattle.mip_history.specs.Runs.{with_agent_past};
-ghost use Rattle.mip_history.specs.Knowing.{link_or_first, now_in};
+ghost use Rattle.mip_history.specs.Knowing.{link_or_first};
 ghost use Rattle.mip_history.specs.Nodes.{answered, acts};
 ghost use Rattle.mip_afresh.specs.Tellings.{with_run};
 ghost use Rattle.mip_afresh.specs.Roles.{IsAgent, IsAgentOut};
@@ -13,18 +13,8 @@ use crate::router::Router;
 use mip_afresh::Telling;
 use mip_afresh_agent::Agent;
 use mip_entries::Answers;
-use mip_words::{Address, Memory, Moment, NodeId, Shield};
+use mip_words::{Address, Memory, NodeId, Shield};
 use std::alloc::Global;
-
-/// A moment below 2^62 ms. A later one, which no schedule comes to, is answered as if memory had run out.
-fn early(now: Moment) -> Result<Moment, Memory>
-    ensures { IfOk result (λ m. (m ≡ now) × (m.0 < 2 ^ 62)) }
-{
-    if now.0 >= 0x4000_0000_0000_0000 {
-        return Err(Memory);
-    }
-    Ok(now)
-}
 
 /// A home agent is put back, and what it did follows.
 fn answer_agent(
@@ -53,8 +43,7 @@ pub(crate) fn hand_to_agent(
     shield: Option<Shield>,
     packet: &[u8],
 ) -> Result<(), Memory>
-    requires early { now_in telling.old.setup telling.old.run < 2 ^ 62 }
-    requires out { IsAgentOut telling.old node.0 agent }
+    requires { IsAgentOut telling.old node.0 agent }
     ensures { OnOk result (telling.new ≡ with_run (acts telling.old.setup node.0 (asked_for.Take number shield packet.now) (with_agent_past node.0 agent.past telling.old.run)) telling.old) }
 {
     let own = agent.own();
@@ -74,7 +63,7 @@ pub(crate) fn tick_agent(
     ensures { OnOk result (telling.new ≡ with_run (acts telling.old.setup node.0 asked_for.Tick (with_agent_past node.0 agent.past telling.old.run)) telling.old) }
 {
     let own = agent.own();
-    let answers = agent.tick(alloc, early(telling.now())?)?;
+    let answers = agent.tick(alloc, telling.now())?;
     answer_agent(alloc, telling, node, own, agent, answers)
 }
 
@@ -87,8 +76,7 @@ pub(crate) fn plan_by_agent(
     valid: u32,
     preferred: u32,
 ) -> Result<(), Memory>
-    requires early { now_in telling.old.setup telling.old.run < 2 ^ 62 }
-    requires out { IsAgentOut telling.old node.0 agent }
+    requires { IsAgentOut telling.old node.0 agent }
     ensures { OnOk result (telling.new ≡ with_run (acts telling.old.setup node.0 (asked_for.Plan valid preferred) (with_agent_past node.0 agent.past telling.old.run)) telling.old) }
 {
     let own = agent.own();
@@ -110,7 +98,7 @@ pub(crate) fn tell_agent(
     let own = agent.own();
     let answers = agent.hear(
         alloc,
-        early(telling.now())?,
+        telling.now(),
         router.address,
         router.preference,
         router.life,

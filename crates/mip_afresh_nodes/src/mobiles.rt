@@ -1,8 +1,6 @@
 //! What mobiles do in a run.
 
-ghost use Rattle.std.specs.Prelude.{◌≡◌, ◌<◌, ◌≤◌, ◌^◌, length, unwrap_or, IsTrue, IsFalse, OnOk, IfOk};
-ghost use Rattle.mip_words.specs.Addresses.{is_routable};
-ghost use Rattle.mip_ipv6.specs.Packet.{names_no_body};
+ghost use Rattle.std.specs.Prelude.{◌≡◌, unwrap_or, OnOk, IfOk};
 ghost use Rattle.mip_binding.specs.Held.{held};
 ghost use Rattle.mip_rules_mobile.specs.MovingRules.{address_under};
 ghost use Rattle.mip_history.specs.Calls as asked_for;
@@ -20,6 +18,7 @@ use crate::keeping::accepted;
 use mip_afresh::Telling;
 use mip_afresh_bindings::held;
 use mip_afresh_mobile::Node;
+use mip_afresh_rules::{Payload, Routable};
 use mip_entries::Answers;
 use mip_nonce::Secrets;
 use mip_words::{Address, LinkId, Memory, NodeId, Prefix, Shield};
@@ -82,7 +81,6 @@ pub(crate) fn hand_to_mobile(
     shield: Option<Shield>,
     packet: &[u8],
 ) -> Result<(), Memory>
-    requires early { now_in telling.old.setup telling.old.run < 2 ^ 62 }
     requires run { IsRun telling.old.setup (with_mobile_past node.0 mobile.past telling.old.run) }
     requires out { IsMobileOut telling.old node.0 mobile }
     ensures { OnOk result (telling.new ≡ with_run (acts telling.old.setup node.0 (asked_for.Take number shield packet.now) (with_mobile_past node.0 mobile.past telling.old.run)) telling.old) }
@@ -99,20 +97,16 @@ pub(crate) fn send_by_mobile(
     telling: &mut Telling,
     node: NodeId,
     mut mobile: Node,
-    to: Address,
-    proto: u8,
-    payload: &[u8],
+    to: Routable,
+    payload: &Payload<'_>,
 ) -> Result<(), Memory>
     requires run { IsRun telling.old.setup (with_mobile_past node.0 mobile.past telling.old.run) }
-    requires routable { IsTrue (is_routable to.0) }
-    requires proto { IsFalse (names_no_body proto) }
-    requires short { length payload.now ≤ 512 }
     requires out { IsMobileOut telling.old node.0 mobile }
-    ensures { OnOk result (telling.new ≡ with_run (acts telling.old.setup node.0 (asked_for.Send to proto payload.now) (with_mobile_past node.0 mobile.past telling.old.run)) telling.old) }
+    ensures { OnOk result (telling.new ≡ with_run (acts telling.old.setup node.0 (asked_for.Send to.address payload.now.proto payload.now.bytes.now) (with_mobile_past node.0 mobile.past telling.old.run)) telling.old) }
 {
     let own = mobile.home();
-    let held = held_by(alloc, telling, node, to)?;
-    let answers = mobile.send(alloc, telling.now(), to, proto, payload, held)?;
+    let held = held_by(alloc, telling, node, to.address)?;
+    let answers = mobile.send(alloc, telling.now(), to, payload, held)?;
     answer_mobile(alloc, telling, node, own, mobile, answers)
 }
 
@@ -122,15 +116,14 @@ pub(crate) fn refresh_by_mobile(
     telling: &mut Telling,
     node: NodeId,
     mut mobile: Node,
-    home: Address,
+    home: Routable,
 ) -> Result<(), Memory>
     requires run { IsRun telling.old.setup (with_mobile_past node.0 mobile.past telling.old.run) }
-    requires routable { IsTrue (is_routable home.0) }
     requires out { IsMobileOut telling.old node.0 mobile }
-    ensures { OnOk result (telling.new ≡ with_run (acts telling.old.setup node.0 (asked_for.Refresh home) (with_mobile_past node.0 mobile.past telling.old.run)) telling.old) }
+    ensures { OnOk result (telling.new ≡ with_run (acts telling.old.setup node.0 (asked_for.Refresh home.address) (with_mobile_past node.0 mobile.past telling.old.run)) telling.old) }
 {
     let own = mobile.home();
-    let held = held_by(alloc, telling, node, home)?;
+    let held = held_by(alloc, telling, node, home.address)?;
     let answers = mobile.refresh(alloc, telling.now(), home, held)?;
     answer_mobile(alloc, telling, node, own, mobile, answers)
 }

@@ -10,12 +10,11 @@ pub(crate) struct Standing<'a> {
 }
 
 impl<'a> Model for Standing<'a> {
-    ghost use Rattle.mip_history.specs.RunsLaws.{IsRun};
-    ghost use Rattle.mip_afresh_nodes.specs.Members.{StandingSeen, IsMember};
+    ghost use Rattle.mip_afresh_nodes.specs.Members.{StandingSeen, Stands};
 
     ghost Value = { StandingSeen };
 
     ghost view = { λ s. record { telling = s.telling.now; member = s.member } };
 
-    ghost invariant = { λ s. IsRun s.telling.now.setup s.telling.now.run × IsMember s.telling.now.setup s.member };
+    ghost invariant = { λ s. Stands s.telling.now s.member };
 }

@@ -15,6 +15,7 @@ use mip_afresh::{Outsider, PacketBytes, Telling};
 use mip_afresh_nodes::{
     advertise, ask, carry, deliver, move_to, plan, refresh, restart, send, show, wait,
 };
+use mip_afresh_rules::{Payload, Routable};
 use mip_entries::Entry;
 use mip_schedule::Event;
 use mip_settled::settled;
@@ -63,7 +64,14 @@ pub(crate) fn happen(alloc: Global, telling: &mut Telling, event: &Event) -> Res
             to,
             proto,
             payload,
-        } => send(alloc, telling, *node, to.get(), *proto, payload.as_slice()),
+        } => {
+            let to = Routable { address: to.get() };
+            let payload = Payload {
+                proto: *proto,
+                bytes: payload.as_slice(),
+            };
+            send(alloc, telling, *node, to, &payload)
+        }
         Event::Inject {
             outsider,
             link,
@@ -90,7 +98,12 @@ pub(crate) fn happen(alloc: Global, telling: &mut Telling, event: &Event) -> Res
         Event::Lose { number } => telling.lose(u64::from(*number)),
         Event::Carry { count } => carry(alloc, telling, *count),
         Event::Restart { node } => restart(alloc, telling, *node),
-        Event::Refresh { node, home } => refresh(alloc, telling, *node, home.get()),
+        Event::Refresh { node, home } => {
+            let home = Routable {
+                address: home.get(),
+            };
+            refresh(alloc, telling, *node, home)
+        }
         Event::Plan {
             node,
             valid,

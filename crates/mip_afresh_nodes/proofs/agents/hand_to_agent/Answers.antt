@@ -17,7 +17,7 @@ returns c =
     let a = c.args.agent in
     subst (λ (run : Run). OnOk c.answer_agent.result (c.answer_agent.new.telling ≡ with_run run t))
     (ap (λ (o : Address). answered t.setup c.args.node.0 (link_or_first t.setup o.0) (with_agent_past c.args.node.0 c.take.new.self.past t.run) c.in_ok-answers.answers) c.own-own.ensures
-    ∙ agent_done t.setup t.run c.args.node.0 a c.requires.out.is c.requires.out.inside (asked_for.Take c.args.number c.args.shield c.args.packet.now) (agents.Take c.args.number c.args.shield c.args.packet.now c.claim_by_agent-claim.result) c.now.result.0 c.take.new.self c.in_ok-answers.answers
+    ∙ agent_done t.setup t.run c.args.node.0 a c.requires.is c.requires.inside (asked_for.Take c.args.number c.args.shield c.args.packet.now) (agents.Take c.args.number c.args.shield c.args.packet.now c.claim_by_agent-claim.result) c.now.result.0 c.take.new.self c.in_ok-answers.answers
     (sym (ap (λ (a : Claim). Some (agents.Take c.args.number c.args.shield c.args.packet.now a)) c.claim_by_agent-claim.ensures))
     c.now.ensures c.in_ok-answers.ensures.goes_on c.in_ok-answers.ensures.answers)
     c.answer_agent.ensures

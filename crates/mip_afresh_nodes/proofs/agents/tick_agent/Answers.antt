@@ -16,6 +16,6 @@ returns c =
     let a = c.args.agent in
     subst (λ (run : Run). OnOk c.answer_agent.result (c.answer_agent.new.telling ≡ with_run run t))
     (ap (λ (o : Address). answered t.setup c.args.node.0 (link_or_first t.setup o.0) (with_agent_past c.args.node.0 c.tick.new.self.past t.run) c.in_ok-answers.answers) c.own-own.ensures
-    ∙ agent_done t.setup t.run c.args.node.0 a c.requires.is c.requires.inside asked_for.Tick agents.Tick c.in_ok-early.field-0.0 c.tick.new.self c.in_ok-answers.answers refl
-    (ap (λ m. m.0) c.in_ok-early.ensures.0 ∙ c.now.ensures) c.in_ok-answers.ensures.goes_on c.in_ok-answers.ensures.answers)
+    ∙ agent_done t.setup t.run c.args.node.0 a c.requires.is c.requires.inside asked_for.Tick agents.Tick c.now.result.0 c.tick.new.self c.in_ok-answers.answers refl
+    c.now.ensures c.in_ok-answers.ensures.goes_on c.in_ok-answers.ensures.answers)
     c.answer_agent.ensures

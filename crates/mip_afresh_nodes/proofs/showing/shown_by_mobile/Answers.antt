@@ -3,13 +3,8 @@ use Rattle.std.proofs.lemmas.Result.{IfOk-weaker}
 use Rattle.mip_history.specs.Runs.{notes}
 use Rattle.mip_afresh_bindings.specs.Accepted.{acceptance_seen}
 use Rattle.mip_afresh_bindings.specs.Showing.{row_seen}
-use Rattle.mip_afresh_nodes.proofs.PartShown.{part_early, part_shown}
+use Rattle.mip_afresh_nodes.proofs.PartShown.{part_shown}
 use Rattle.mip_afresh_nodes.proofs.showing.shown_by_mobile.Goals as goal
-
-pub shown_rows-requires : goal.shown_rows-requires
-shown_rows-requires c =
-    let t = c.args.telling.now in
-    part_early t.setup t.run c.args.node.0 c.requires.mobile c.requires.run c.requires.early c.deref.result.now (ap (map acceptance_seen) c.deref.ensures.value ∙ c.in_ok-accepted.ensures)
 
 pub returns : goal.returns
 returns c =
