@@ -3,6 +3,7 @@ use Rattle.std.proofs.Common.{◌≡◌, ℕ, zero, suc, ◌<◌, List, [], ◌�
 use Rattle.std.specs.Prelude.{Option, Some, None, unwrap_or, slice_get, slice_set, slice_index_or}
 use Rattle.mip_words.specs.declared.address.Address.{Address}
 use Rattle.mip_nonce.specs.Secrets.{Life}
+use Rattle.mip_outside.specs.Places.{Around}
 use Rattle.mip_entries.specs.declared.answer.Answer.{Answer}
 use Rattle.mip_entries.specs.Stamped.{Stamped}
 use Rattle.mip_rules_agent.specs.Calls as agents
@@ -26,6 +27,12 @@ use Rattle.mip_afresh_agent.specs.Agents.{AgentSeen}
 use Rattle.mip_afresh_mobile.specs.Nodes as of_mobile
 use Rattle.mip_afresh_mobile.specs.Nodes.{NodeSeen}
 use Rattle.mip_afresh.specs.declared.role.Role.TheVariants.{Agent, Mobile}
+use Rattle.mip_afresh_nodes.specs.declared.agent_call.AgentCall.{AgentCall}
+use Rattle.mip_afresh_nodes.specs.declared.agent_call.AgentCall.TheVariants as agent_calls
+use Rattle.mip_afresh_nodes.specs.declared.mobile_call.MobileCall.{MobileCall}
+use Rattle.mip_afresh_nodes.specs.declared.mobile_call.MobileCall.TheVariants as mobile_calls
+use Rattle.mip_afresh_nodes.specs.AgentCalls.{asked_of_agent, call_of_agent}
+use Rattle.mip_afresh_nodes.specs.MobileCalls.{asked_of_mobile, call_of_mobile}
 use Rattle.mip_afresh.specs.Tellings.{TellingSeen, with_run}
 use Rattle.mip_afresh.specs.Roles.{agent_host, mobile_host, IsAgent, IsMobile, IsAgentOut, IsMobileOut, IsTaken}
 
@@ -33,6 +40,20 @@ pub set_again : {X : Type 0} (xs : List X) (n : ℕ) (x y : X) → slice_set (sl
 set_again [] n x y = refl
 set_again (z ∷ zs) zero x y = refl
 set_again (z ∷ zs) (suc n) x y = ap (λ (l : List _). z ∷ l) (set_again zs n x y)
+
+-- what one is asked for is that of its role
+pub agent_asked : (around : Around) (call : AgentCall) → for_agent around (asked_of_agent call) ≡ Some (call_of_agent around call)
+agent_asked around (agent_calls.Take number shield packet) = refl
+agent_asked around agent_calls.Tick = refl
+agent_asked around (agent_calls.Plan valid preferred) = refl
+agent_asked around (agent_calls.Hear router) = refl
+
+pub mobile_asked : (around : Around) (home : Address) (call : MobileCall) → for_mobile around home (asked_of_mobile call) ≡ Some (call_of_mobile around home call)
+mobile_asked around home mobile_calls.Tick = refl
+mobile_asked around home (mobile_calls.Attach prefix) = refl
+mobile_asked around home mobile_calls.Leave = refl
+mobile_asked around home mobile_calls.Ask = refl
+mobile_asked around home (mobile_calls.Restart secrets) = refl
 
 -- a home agent
 module _ (s : Setup) (run : Run) (n : ℕ) (a : AgentSeen) (is : IsAgent s n a) (inside : n < length run.agent_pasts) where

@@ -8,11 +8,13 @@ ghost use Rattle.mip_afresh.specs.Tellings.{with_run};
 ghost use Rattle.mip_afresh_nodes.specs.Members.{Stands};
 
 use crate::acting::act;
-use crate::agents::{hand_to_agent, plan_by_agent};
+use crate::agent_call::AgentCall;
+use crate::agents::ask_agent;
 use crate::answers::{about_data, about_packet, about_refresh};
 use crate::idling::{idle_agent, idle_mobile, idle_plain};
 use crate::member::{Member, member_of};
-use crate::mobiles::{ask_by_mobile, hand_to_mobile, refresh_by_mobile, send_by_mobile};
+use crate::mobile_call::MobileCall;
+use crate::mobiles::{ask_mobile, hand_to_mobile, refresh_by_mobile, send_by_mobile};
 use crate::standing::Standing;
 use mip_afresh::{Asked, Role, Telling};
 use mip_afresh_rules::{Payload, Routable};
@@ -55,15 +57,12 @@ pub fn take(
 {
     match telling.take_role(node) {
         Role::Agent(agent) => {
-            hand_to_agent(
-                alloc,
-                telling,
-                node,
-                agent,
+            let call = AgentCall::Take {
                 number,
                 shield,
-                packet.as_slice(),
-            )
+                packet: packet.as_slice(),
+            };
+            ask_agent(alloc, telling, node, agent, &call)
         }
         Role::Mobile(mobile) => {
             hand_to_mobile(
@@ -171,7 +170,10 @@ pub fn plan(
     ensures { OnOk result (telling.new ≡ with_run (acts telling.old.setup node.0 (asked_for.Plan valid preferred) telling.old.run) telling.old) }
 {
     match telling.take_role(node) {
-        Role::Agent(agent) => plan_by_agent(alloc, telling, node, agent, valid, preferred),
+        Role::Agent(agent) => {
+            let call = AgentCall::Plan { valid, preferred };
+            ask_agent(alloc, telling, node, agent, &call)
+        }
         Role::Mobile(mobile) => idle_mobile(telling, node, mobile),
         Role::Plain => idle_plain(telling, node),
     }
@@ -183,7 +185,7 @@ pub fn ask(alloc: Global, telling: &mut Telling, node: NodeId) -> Result<(), Mem
 {
     match telling.take_role(node) {
         Role::Agent(agent) => idle_agent(telling, node, agent),
-        Role::Mobile(mobile) => ask_by_mobile(alloc, telling, node, mobile),
+        Role::Mobile(mobile) => ask_mobile(alloc, telling, node, mobile, MobileCall::Ask),
         Role::Plain => idle_plain(telling, node),
     }
 }

@@ -4,6 +4,7 @@
 
 mod acting;
 mod advertising;
+mod agent_call;
 mod agents;
 mod answers;
 mod calls;
@@ -12,6 +13,7 @@ mod delivering;
 mod idling;
 mod keeping;
 mod member;
+mod mobile_call;
 mod mobiles;
 mod moving;
 mod restarting;
