@@ -42,7 +42,7 @@ fn handed_over(
     packet: PacketBytes<'_>,
     link: Option<LinkId>,
 ) -> Result<Bytes, Memory>
-    ensures { IfOk result (λ b. b ≡ handed_over packet.bytes.now (link_seen link)) }
+    ensures { IfOk result (λ b. b ≡ handed_over packet.entry.bytes.now (link_seen link)) }
 {
     match link {
         None => Bytes::copy(alloc, packet.bytes),

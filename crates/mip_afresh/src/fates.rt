@@ -19,14 +19,14 @@ const FIRST_OUTSIDER: u8 = 32;
 
 /// The destination of a packet (RFC 8200 section 3).
 pub(crate) fn destination_in(packet: PacketBytes<'_>) -> Address
-    ensures { result.0 ≡ destination_in packet.bytes.now }
+    ensures { result.0 ≡ destination_in packet.entry.bytes.now }
 {
     Address::at(packet.bytes, 24)
 }
 
 /// Its hop limit.
 fn hop_of(packet: PacketBytes<'_>) -> u8
-    ensures { result ≡ hop_of packet.bytes.now }
+    ensures { result ≡ hop_of packet.entry.bytes.now }
 {
     packet.bytes[7]
 }

@@ -9,7 +9,7 @@ use mip_words::{Address, LinkId, Prefix};
 
 /// The link of an address: the first that has its prefix.
 pub fn link_of(links: FewLinks<'_>, address: Address) -> Option<LinkId>
-    ensures { option_map (λ l. l.0) result ≡ link_of (map (λ p. p.0) links.prefixes.now) address.0 }
+    ensures { option_map (λ l. l.0) result ≡ link_of (map (λ p. p.0) links.entry.prefixes.now) address.0 }
 {
     let place = link_place(links, address.prefix())?;
     Some(LinkId(place))
@@ -17,7 +17,7 @@ pub fn link_of(links: FewLinks<'_>, address: Address) -> Option<LinkId>
 
 /// The place of a prefix among those of the links.
 fn link_place(links: FewLinks<'_>, prefix: Prefix) -> Option<u8>
-    ensures { result ≡ link_from 0 (map (λ p. p.0) links.prefixes.now) prefix.0 }
+    ensures { result ≡ link_from 0 (map (λ p. p.0) links.entry.prefixes.now) prefix.0 }
 {
     let prefixes = links.prefixes;
     let mut place = 0;

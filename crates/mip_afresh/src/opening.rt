@@ -39,7 +39,7 @@ fn is_same_link(a: Option<LinkId>, b: Option<LinkId>) -> bool
 
 /// A home agent with its address on this link.
 fn is_agent_on(links: FewLinks<'_>, link: Option<LinkId>, host: &Host) -> bool
-    ensures { result ≡ is_agent_on (map (λ p. p.0) links.prefixes.now) (option_map (λ l. l.0) link) (host_seen host.now) }
+    ensures { result ≡ is_agent_on (map (λ p. p.0) links.entry.prefixes.now) (option_map (λ l. l.0) link) (host_seen host.now) }
 {
     match host.kind {
         Kind::Agent { .. } => is_same_link(link, link_of(links, host.address)),
@@ -49,7 +49,7 @@ fn is_agent_on(links: FewLinks<'_>, link: Option<LinkId>, host: &Host) -> bool
 
 /// One of these nodes is a home agent with its address on this link.
 fn any_agent_on(links: FewLinks<'_>, link: Option<LinkId>, hosts: &[Host]) -> bool
-    ensures { result ≡ list_any (is_agent_on (map (λ p. p.0) links.prefixes.now) (option_map (λ l. l.0) link)) (map host_seen hosts.now) }
+    ensures { result ≡ list_any (is_agent_on (map (λ p. p.0) links.entry.prefixes.now) (option_map (λ l. l.0) link)) (map host_seen hosts.now) }
 {
     for host in hosts {
         if is_agent_on(links, link, host) {
@@ -61,7 +61,7 @@ fn any_agent_on(links: FewLinks<'_>, link: Option<LinkId>, hosts: &[Host]) -> bo
 
 /// The first home agent on the link of its address, behind these nodes.
 fn is_first_agent(links: FewLinks<'_>, before: &[Host], host: &Host) -> bool
-    ensures { result ≡ is_first_agent (map (λ p. p.0) links.prefixes.now) (map host_seen before.now) (host_seen host.now).address (host_seen host.now).kind }
+    ensures { result ≡ is_first_agent (map (λ p. p.0) links.entry.prefixes.now) (map host_seen before.now) (host_seen host.now).address (host_seen host.now).kind }
 {
     match host.kind {
         Kind::Agent { .. } => !any_agent_on(links, link_of(links, host.address), before),
@@ -71,7 +71,7 @@ fn is_first_agent(links: FewLinks<'_>, before: &[Host], host: &Host) -> bool
 
 /// The claim of an address by a node, on its link.
 fn claimed(links: FewLinks<'_>, who: u8, address: Address) -> Entry
-    ensures { result ≡ claimed_entry (map (λ p. p.0) links.prefixes.now) who address }
+    ensures { result ≡ claimed_entry (map (λ p. p.0) links.entry.prefixes.now) who address }
 {
     let link = match link_of(links, address) {
         Some(link) => link,
@@ -87,7 +87,7 @@ fn claim_of(
     before: FewHosts<'_>,
     host: &Host,
 ) -> Result<(), Memory>
-    ensures { OnOk result (past.new ≡ past.old ++ claims_of (map (λ p. p.0) links.prefixes.now) (map host_seen before.list.now) (host_seen host.now)) }
+    ensures { OnOk result (past.new ≡ past.old ++ claims_of (map (λ p. p.0) links.entry.prefixes.now) (map host_seen before.entry.list.now) (host_seen host.now)) }
 {
     let who = before.list.len() as u8;
     past.push(claimed(links, who, host.address))?;
@@ -99,7 +99,7 @@ fn claim_of(
 
 /// The claims of the nodes, in order of declaration.
 fn opening(alloc: Global, links: FewLinks<'_>, hosts: FewHosts<'_>) -> Result<Past, Memory>
-    ensures { IfOk result (λ h. h ≡ claims_from (map (λ p. p.0) links.prefixes.now) [] (map host_seen hosts.list.now)) }
+    ensures { IfOk result (λ h. h ≡ claims_from (map (λ p. p.0) links.entry.prefixes.now) [] (map host_seen hosts.entry.list.now)) }
 {
     let list = hosts.list;
     let mut past = Past::new(alloc)?;

@@ -107,7 +107,7 @@ impl Telling {
         link: LinkId,
         packet: PacketBytes<'_>,
     ) -> Result<(), Memory>
-        ensures { OnOk result (self.new ≡ with_run (injected self.old.setup self.old.run outsider link.0 packet.bytes.now) self.old) }
+        ensures { OnOk result (self.new ≡ with_run (injected self.old.setup self.old.run outsider link.0 packet.entry.bytes.now) self.old) }
     {
         let number = self.next();
         self.note(Entry::Injected {

@@ -136,7 +136,13 @@ fn refresh_as(
 {
     let standing = Standing { telling, member };
     let answers = about_refresh(alloc, &standing, home)?;
-    act(alloc, telling, member, Asked::Refresh(home.address), answers)
+    act(
+        alloc,
+        telling,
+        member,
+        Asked::Refresh(home.address),
+        answers,
+    )
 }
 
 /// A node is to ask for a binding of this home to be refreshed (RFC 6275 section 9.5.5).

@@ -27,11 +27,7 @@ pub(crate) fn accepted(
 }
 
 /// What a correspondent keeps of the home that a packet is about.
-fn kept_about(
-    alloc: Global,
-    standing: &Standing<'_>,
-    subject: Subject,
-) -> Result<Kept, Memory>
+fn kept_about(alloc: Global, standing: &Standing<'_>, subject: Subject) -> Result<Kept, Memory>
     ensures { IfOk result (λ kept. IsKept kept (known_at standing.now).cache (moment_at standing.now) subject.source subject.home) }
 {
     let telling = standing.telling;

@@ -70,7 +70,7 @@ fn answer_to(
     asking: Asking,
     told: Told,
 ) -> Result<Bytes, Memory>
-    ensures is { IfOk result (λ b. Some b ≡ tell_with init.bytes.now (asking_seen asking) (Some (told_seen told))) }
+    ensures is { IfOk result (λ b. Some b ≡ tell_with init.entry.bytes.now (asking_seen asking) (Some (told_seen told))) }
     ensures long { IfOk result (λ b. 40 ≤ length b) }
 {
     let own = Address::at(init.bytes, DESTINATION);
@@ -90,7 +90,7 @@ fn test_for(
     test: u32,
     init: PacketBytes<'_>,
 ) -> Result<Option<Bytes>, Memory>
-    ensures is { IfOk result (λ b. b ≡ tell_of telling.now.run.posts test init.bytes.now (asking_in init.bytes.now)) }
+    ensures is { IfOk result (λ b. b ≡ tell_of telling.now.run.posts test init.entry.bytes.now (asking_in init.entry.bytes.now)) }
     ensures long { IfOk result (λ b. IfSome b (λ p. 40 ≤ length p)) }
 {
     let Some(asking) = asking_in(init.bytes) else {

@@ -100,7 +100,7 @@ fn host_in(
     n: usize,
     d: &Declaration,
 ) -> Result<Option<Host>, Memory>
-    ensures { IfOk result (λ o. any_host (option_map host_seen o) ≡ hosts_from declared.all.now n (d.now ∷ [])) }
+    ensures { IfOk result (λ o. any_host (option_map host_seen o) ≡ hosts_from declared.entry.all.now n (d.now ∷ [])) }
 {
     match d {
         Declaration::Correspondent { address, room, .. } => Ok(Some(Host {
@@ -142,7 +142,7 @@ fn add_host(
     declared: Declared<'_>,
     d: &Declaration,
 ) -> Result<(), Memory>
-    ensures { OnOk result (map host_seen hosts.new.items ≡ map host_seen hosts.old.items ++ hosts_from declared.all.now (length hosts.old.items) (d.now ∷ [])) }
+    ensures { OnOk result (map host_seen hosts.new.items ≡ map host_seen hosts.old.items ++ hosts_from declared.entry.all.now (length hosts.old.items) (d.now ∷ [])) }
 {
     if let Some(host) = host_in(alloc, declared, hosts.len(), d)? {
         hosts.push(host)?;
