@@ -1,5 +1,5 @@
 -- A telling: what a schedule declares, and a run of it.
-use Rattle.std.specs.Prelude.{ℕ, List, [], map, fold, slice_set, slice_index_or}
+use Rattle.std.specs.Prelude.{List, [], map, fold, slice_set, slice_index_or}
 use Rattle.mip_entries.specs.Stamped.{Stamped}
 use Rattle.mip_rules_correspondent.specs.Calls as calls
 use Rattle.mip_rules_correspondent.specs.Calls.{Call}

@@ -1,4 +1,4 @@
-use Rattle.std.proofs.Common.{◌≡◌, ◌++◌, List, map, take, ap, ◌∙◌}
+use Rattle.std.proofs.Common.{◌++◌, List, map, take, ap, ◌∙◌}
 use Rattle.mip_entries.specs.declared.entry.Entry.{Entry}
 use Rattle.mip_history.specs.Permitted.{claims_of}
 use Rattle.mip_afresh.specs.Tellings.{host_seen}

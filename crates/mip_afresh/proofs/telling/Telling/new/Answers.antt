@@ -1,6 +1,6 @@
-use Rattle.std.proofs.Common.{◌≡◌, ℕ, List, [], map, ap, ◌∙◌}
+use Rattle.std.proofs.Common.{ℕ, List, [], map, ap, ◌∙◌}
 use Rattle.mip_history.specs.Runs.{Run}
-use Rattle.mip_history.specs.Permitted.{claims_from, opened}
+use Rattle.mip_history.specs.Permitted.{claims_from}
 use Rattle.mip_afresh.specs.Tellings.{TellingSeen, host_seen, pasts_of}
 use Rattle.mip_afresh.proofs.Openings.{fresh_agents, fresh_mobiles, opened_so}
 use Rattle.mip_afresh.proofs.telling.Telling.new.Goals as goal
