@@ -1,7 +1,6 @@
-use Rattle.std.proofs.Common.{◌≡◌, ℕ, ◌<◌, ◌^◌, List, map, sym, ap, subst, ◌∙◌}
+use Rattle.std.proofs.Common.{ℕ, ◌<◌, ◌^◌, map, ap, subst, ◌∙◌}
 use Rattle.std.proofs.lemmas.Result.{IfOk-weaker}
 use Rattle.mip_words.specs.declared.moment.Moment.{Moment}
-use Rattle.mip_history.specs.Runs.{notes}
 use Rattle.mip_afresh_bindings.specs.Accepted.{acceptance_seen}
 use Rattle.mip_afresh_bindings.specs.Showing.{row_seen}
 use Rattle.mip_afresh_nodes.proofs.PartShown.{part_early, part_shown}
