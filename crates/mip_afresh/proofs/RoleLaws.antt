@@ -13,7 +13,7 @@ use Rattle.mip_afresh_mobile.specs.Nodes.{NodeSeen}
 use Rattle.mip_afresh.specs.declared.role.Role.{Role}
 use Rattle.mip_afresh.specs.declared.role.Role.TheVariants.{Plain, Agent, Mobile}
 use Rattle.mip_afresh.specs.Tellings.{TellingSeen, with_run}
-use Rattle.mip_afresh.specs.Roles.{agent_past, mobile_past, IsAgent, IsMobile, IsOf, AreOf, IsAgentOf, IsMobileOf, StandsAs, IsTaken}
+use Rattle.mip_afresh.specs.Roles.{agent_past, mobile_past, IsAgent, IsMobile, IsOf, AreOf, StandsAs, IsTaken}
 
 pub map_set : {X Y : Type 0} (f : X → Y) (xs : List X) (n : ℕ) (x : X) → map f (slice_set xs n x) ≡ slice_set (map f xs) n (f x)
 map_set f [] n x = refl

@@ -5,7 +5,7 @@ use Rattle.mip_rules_agent.specs.Steps as agents
 use Rattle.mip_rules_mobile.specs.Steps as mobiles
 use Rattle.mip_history.specs.Setup as setups
 use Rattle.mip_history.specs.Setup.{Setup, Host}
-use Rattle.mip_history.specs.Runs.{Run, with_agent_past, with_mobile_past, agent_past_at, mobile_past_at}
+use Rattle.mip_history.specs.Runs.{with_agent_past, with_mobile_past, agent_past_at, mobile_past_at}
 use Rattle.mip_history.specs.Knowing.{secrets_in}
 use Rattle.mip_afresh_agent.specs.Agents.{AgentSeen}
 use Rattle.mip_afresh_mobile.specs.Nodes.{NodeSeen}

@@ -1,5 +1,5 @@
 -- A telling: what a schedule declares, and a run of it.
-use Rattle.std.specs.Prelude.{◌≤◌, ℕ, List, [], length, map, fold, slice_set, slice_index_or}
+use Rattle.std.specs.Prelude.{List, [], map, fold, slice_set, slice_index_or}
 use Rattle.mip_entries.specs.Stamped.{Stamped}
 use Rattle.mip_rules_correspondent.specs.Calls as calls
 use Rattle.mip_rules_correspondent.specs.Calls.{Call}
@@ -61,7 +61,3 @@ no_pasts s = map (λ host. []) s.hosts
 
 abbrev pub pasts_of : Setup → List Acted → List (List (Stamped Step))
 pasts_of s acted = fold (acted_one s) (no_pasts s) acted
-
--- it has its fixed header at least
-abbrev pub IsLong : Posted → Type 0
-IsLong p = 40 ≤ length p.packet

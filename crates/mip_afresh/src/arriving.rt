@@ -1,6 +1,6 @@
 //! A packet of the pool is delivered.
 
-ghost use Rattle.std.specs.Prelude.{◌≡◌, ◌+◌, ◌≤◌, false, OnOk, IfOk, IfSome, if◌then◌else◌, length, option_map, slice_index_or};
+ghost use Rattle.std.specs.Prelude.{◌≡◌, ◌+◌, false, OnOk, IfOk, if◌then◌else◌, option_map, slice_index_or};
 ghost use Rattle.mip_entries.specs.declared.entry.Entry.TheVariants.{Handed, Lost, Idle as Stays};
 ghost use Rattle.mip_links.specs.Table as table;
 ghost use Rattle.mip_links.specs.Table.{Post, in_pool};
@@ -15,6 +15,7 @@ use crate::fate::Fate;
 use crate::fates::destination_in;
 use crate::landing::Landing;
 use crate::links::{link_of, other_link};
+use crate::packet_bytes::PacketBytes;
 use crate::posted::Posted;
 use crate::telling::Telling;
 use mip_entries::Entry;
@@ -36,13 +37,16 @@ pub enum Arrival {
 }
 
 /// A packet as it is handed over: with its hop limit one less where it comes to another link.
-fn handed_over(alloc: Global, packet: &[u8], link: Option<LinkId>) -> Result<Bytes, Memory>
-    requires { 40 ≤ length packet.now }
-    ensures { IfOk result (λ b. b ≡ handed_over packet.now (link_seen link)) }
+fn handed_over(
+    alloc: Global,
+    packet: PacketBytes<'_>,
+    link: Option<LinkId>,
+) -> Result<Bytes, Memory>
+    ensures { IfOk result (λ b. b ≡ handed_over packet.entry.bytes.now (link_seen link)) }
 {
     match link {
-        None => Bytes::copy(alloc, packet),
-        Some(_) => lower(alloc, packet),
+        None => Bytes::copy(alloc, packet.bytes),
+        Some(_) => lower(alloc, packet.bytes),
     }
 }
 
@@ -56,8 +60,7 @@ fn is_no_holder(why: Why) -> bool
 impl Telling {
     /// The packet with this number, where it is in the pool.
     fn in_pool(&self, number: u64) -> Option<&Posted>
-        ensures found { option_map (λ p. post_seen p.now) result ≡ in_pool self.now.run.flying self.now.run.posts number }
-        ensures long { IfSome result (λ p. 40 ≤ length p.now.packet) }
+        ensures { option_map (λ p. post_seen p.now) result ≡ in_pool self.now.run.flying self.now.run.posts number }
     {
         if self.is_flying(number) {
             self.posts.get(number as usize)
@@ -68,11 +71,10 @@ impl Telling {
 
     /// What a packet of the pool comes to.
     fn landing_of(&self, alloc: Global, post: &Posted) -> Result<Landing, Memory>
-        requires { 40 ≤ length post.now.packet }
         ensures { IfOk result (IsLanding self.now.setup self.now.run.past (post_seen post.now)) }
     {
-        let packet = post.packet.as_slice();
-        let link = link_of(&self.setting.links, destination_in(packet));
+        let packet = post.bytes();
+        let link = link_of(self.setting.few_links(), destination_in(packet));
         let link = other_link(link, post.from);
         Ok(Landing {
             fate: self.fate_of(post),

@@ -41,7 +41,7 @@ impl Telling {
     pub fn claim(&mut self, who: u8, address: Address) -> Result<(), Memory>
         ensures { OnOk result (self.new ≡ with_run (claims self.old.setup who address self.old.run) self.old) }
     {
-        match link_of(&self.setting.links, address) {
+        match link_of(self.setting.few_links(), address) {
             Some(link) => {
                 let holder = self.holder(address);
                 self.note(claim_entry(who, address, link, holder))
@@ -84,7 +84,7 @@ impl Telling {
     pub fn give_up(&mut self, who: u8, address: Address) -> Result<(), Memory>
         ensures { OnOk result (self.new ≡ with_run (gives_up self.old.setup who address self.old.run) self.old) }
     {
-        match link_of(&self.setting.links, address) {
+        match link_of(self.setting.few_links(), address) {
             Some(link) if is_held_by(self.holder(address), who) => {
                 self.give_up_on(who, address, link)
             }

@@ -1,6 +1,6 @@
 //! What becomes of a packet that is delivered.
 
-ghost use Rattle.std.specs.Prelude.{◌≡◌, ◌≤◌, ◌==◌, ◌&&◌, not, nat_lt, Some, length};
+ghost use Rattle.std.specs.Prelude.{◌≡◌, ◌==◌, ◌&&◌, not, nat_lt, Some};
 ghost use Rattle.mip_ipv6.specs.Tunnel.{hop_of};
 ghost use Rattle.mip_links.specs.Table.{destination_in, held_by, at_holder, at_link, delivery};
 ghost use Rattle.mip_history.specs.Questions.{asked_in};
@@ -9,6 +9,7 @@ ghost use Rattle.mip_afresh.specs.Fates.{fate_seen};
 
 use crate::fate::Fate;
 use crate::links::link_of;
+use crate::packet_bytes::PacketBytes;
 use crate::posted::Posted;
 use crate::telling::Telling;
 use mip_words::{Address, LinkId, NodeId, Shield, Why};
@@ -17,19 +18,17 @@ use mip_words::{Address, LinkId, NodeId, Shield, Why};
 const FIRST_OUTSIDER: u8 = 32;
 
 /// The destination of a packet (RFC 8200 section 3).
-pub fn destination_in(packet: &[u8]) -> Address
-    requires { 40 ≤ length packet.now }
-    ensures { result.0 ≡ destination_in packet.now }
+pub(crate) fn destination_in(packet: PacketBytes<'_>) -> Address
+    ensures { result.0 ≡ destination_in packet.entry.bytes.now }
 {
-    Address::at(packet, 24)
+    Address::at(packet.bytes, 24)
 }
 
 /// Its hop limit.
-fn hop_of(packet: &[u8]) -> u8
-    requires { 40 ≤ length packet.now }
-    ensures { result ≡ hop_of packet.now }
+fn hop_of(packet: PacketBytes<'_>) -> u8
+    ensures { result ≡ hop_of packet.entry.bytes.now }
 {
-    packet[7]
+    packet.bytes[7]
 }
 
 /// The fate of a packet whose destination somebody holds, by the address that he claimed first.
@@ -48,10 +47,9 @@ fn held_by(shield: Option<Shield>, by: u8, declared: Option<Address>) -> Fate
 
 /// It comes to another link, and its hop limit is used up.
 fn is_spent(post: &Posted, link: LinkId) -> bool
-    requires { 40 ≤ length post.now.packet }
     ensures { result ≡ (not (link.0 == post.now.from.0) && nat_lt (hop_of post.now.packet) 2) }
 {
-    link.0 != post.from.0 && hop_of(post.packet.as_slice()) < 2
+    link.0 != post.from.0 && hop_of(post.bytes()) < 2
 }
 
 impl Telling {
@@ -67,23 +65,21 @@ impl Telling {
 
     /// The fate of a packet that comes to a link.
     fn at_link(&self, post: &Posted, link: LinkId) -> Fate
-        requires { 40 ≤ length post.now.packet }
         ensures { fate_seen result ≡ at_link (asked_in self.now.setup self.now.run.past) (post_seen post.now) (Some link.0) }
     {
         if is_spent(post, link) {
             return Fate::Gone(Why::Hop);
         }
-        let destination = destination_in(post.packet.as_slice());
+        let destination = destination_in(post.bytes());
         self.at_holder(post.shield, self.holder(destination))
     }
 
     /// The fate of a packet of the pool: no link, the hop limit, its holder.
     pub(crate) fn fate_of(&self, post: &Posted) -> Fate
-        requires { 40 ≤ length post.now.packet }
         ensures { fate_seen result ≡ delivery (asked_in self.now.setup self.now.run.past) (Some (post_seen post.now)) }
     {
-        let destination = destination_in(post.packet.as_slice());
-        match link_of(&self.setting.links, destination) {
+        let destination = destination_in(post.bytes());
+        match link_of(self.setting.few_links(), destination) {
             Some(link) => self.at_link(post, link),
             None => Fate::Gone(Why::NoLink),
         }

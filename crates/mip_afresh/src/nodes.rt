@@ -39,14 +39,14 @@ impl Telling {
     pub fn host(&self, node: NodeId) -> Option<&Host>
         ensures { option_map (λ h. host_seen h.now) result ≡ slice_get self.now.setup.hosts node.0 }
     {
-        self.setting.hosts.get(usize::from(node.0))
+        self.setting.host(node)
     }
 
     /// How many nodes there are.
     pub fn count(&self) -> u8
         ensures { result ≡ length self.now.setup.hosts }
     {
-        self.setting.hosts.len() as u8
+        self.setting.count()
     }
 
     /// The prefix of a link.
@@ -63,7 +63,7 @@ impl Telling {
     pub fn link_of(&self, address: Address) -> Option<LinkId>
         ensures { option_map (λ l. l.0) result ≡ link_of self.now.setup.links address.0 }
     {
-        link_of(&self.setting.links, address)
+        link_of(self.setting.few_links(), address)
     }
 
     /// The link on which a mobile with this home stands.
@@ -77,7 +77,7 @@ impl Telling {
     pub fn station(&self, own: Address) -> LinkId
         ensures { result.0 ≡ link_or_first self.now.setup own.0 }
     {
-        match link_of(&self.setting.links, own) {
+        match self.link_of(own) {
             Some(link) => link,
             None => LinkId(0),
         }

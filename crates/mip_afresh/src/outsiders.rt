@@ -1,9 +1,10 @@
 //! What outsiders do besides posting: they listen, and take addresses.
 
-ghost use Rattle.std.specs.Prelude.{◌≡◌, ◌<◌, OnOk};
+ghost use Rattle.std.specs.Prelude.{◌≡◌, OnOk};
 ghost use Rattle.mip_history.specs.Outsiders.{listens, deafens, squats, yields};
 ghost use Rattle.mip_afresh.specs.Tellings.{with_run};
 
+use crate::outsider::Outsider;
 use crate::telling::Telling;
 use mip_entries::Entry;
 use mip_words::{Address, LinkId, Memory};
@@ -32,18 +33,16 @@ impl Telling {
     }
 
     /// An outsider takes an address, if nobody else has it.
-    pub fn squat(&mut self, outsider: u8, address: Address) -> Result<(), Memory>
-        requires { outsider < 8 }
-        ensures { OnOk result (self.new ≡ with_run (squats self.old.setup self.old.run outsider address) self.old) }
+    pub fn squat(&mut self, outsider: Outsider, address: Address) -> Result<(), Memory>
+        ensures { OnOk result (self.new ≡ with_run (squats self.old.setup self.old.run outsider.number address) self.old) }
     {
-        self.claim(outsider + 32, address)
+        self.claim(outsider.number + 32, address)
     }
 
     /// An outsider gives an address up, if it has it.
-    pub fn yield_up(&mut self, outsider: u8, address: Address) -> Result<(), Memory>
-        requires { outsider < 8 }
-        ensures { OnOk result (self.new ≡ with_run (yields self.old.setup self.old.run outsider address) self.old) }
+    pub fn yield_up(&mut self, outsider: Outsider, address: Address) -> Result<(), Memory>
+        ensures { OnOk result (self.new ≡ with_run (yields self.old.setup self.old.run outsider.number address) self.old) }
     {
-        self.give_up(outsider + 32, address)
+        self.give_up(outsider.number + 32, address)
     }
 }

@@ -1,6 +1,6 @@
 //! Packets are posted, and outsiders hear them.
 
-ghost use Rattle.std.specs.Prelude.{◌≡◌, ◌≤◌, [], ◌∷◌, ◌++◌, ◌&&◌, length, if◌then◌else◌, None, Some, IfOk, OnOk, IfSome, option_map, slice_get};
+ghost use Rattle.std.specs.Prelude.{◌≡◌, [], ◌∷◌, ◌++◌, ◌&&◌, if◌then◌else◌, None, Some, IfOk, OnOk, option_map, slice_get};
 ghost use Rattle.mip_entries.specs.declared.entry.Entry.TheVariants.{Heard};
 ghost use Rattle.mip_history.specs.Runs.{notes};
 ghost use Rattle.mip_history.specs.Questions.{hears_in};
@@ -8,6 +8,7 @@ ghost use Rattle.mip_history.specs.Posting.{heards, is_other, overheard};
 ghost use Rattle.mip_history.specs.Outsiders.{injected};
 ghost use Rattle.mip_afresh.specs.Tellings.{with_run};
 
+use crate::packet_bytes::PacketBytes;
 use crate::posted::Posted;
 use crate::questions::hears;
 use crate::telling::Telling;
@@ -104,33 +105,31 @@ impl Telling {
         alloc: Global,
         outsider: u8,
         link: LinkId,
-        packet: &[u8],
+        packet: PacketBytes<'_>,
     ) -> Result<(), Memory>
-        requires { 40 ≤ length packet.now }
-        ensures { OnOk result (self.new ≡ with_run (injected self.old.setup self.old.run outsider link.0 packet.now) self.old) }
+        ensures { OnOk result (self.new ≡ with_run (injected self.old.setup self.old.run outsider link.0 packet.entry.bytes.now) self.old) }
     {
         let number = self.next();
         self.note(Entry::Injected {
             number,
             outsider,
             link,
-            packet: Bytes::copy(alloc, packet)?,
+            packet: Bytes::copy(alloc, packet.bytes)?,
         })?;
         self.enter(Posted {
             from: link,
             shield: None,
-            packet: Bytes::copy(alloc, packet)?,
+            packet: Bytes::copy(alloc, packet.bytes)?,
         })?;
         self.overhear(alloc, link, None, Some(outsider), number)
     }
 
     /// The bytes of a packet that was posted.
-    pub fn packet(&self, number: u64) -> Option<&[u8]>
-        ensures bytes { option_map (λ p. p.now) result ≡ option_map (λ p. p.packet) (slice_get self.now.run.posts number) }
-        ensures long { IfSome result (λ p. 40 ≤ length p.now) }
+    pub fn packet(&self, number: u64) -> Option<PacketBytes<'_>>
+        ensures { option_map (λ p. p.bytes.now) result ≡ option_map (λ p. p.packet) (slice_get self.now.run.posts number) }
     {
         match self.posts.get(number as usize) {
-            Some(post) => Some(post.packet.as_slice()),
+            Some(post) => Some(post.bytes()),
             None => None,
         }
     }

@@ -1,4 +1,4 @@
-ghost use Rattle.std.specs.Prelude.{◌≡◌, ◌≤◌, [], ◌∷◌, ◌++◌, length, option_map, slice_get, IfSome, OnOk};
+ghost use Rattle.std.specs.Prelude.{◌≡◌, [], ◌∷◌, ◌++◌, length, option_map, slice_get, OnOk};
 ghost use Rattle.mip_afresh.specs.Tellings.{post_seen};
 
 use crate::posted::Posted;
@@ -14,15 +14,12 @@ pub(crate) struct Posts {
 
 impl Model for Posts {
     ghost use Rattle.std.specs.Prelude.{List, map};
-    ghost use Rattle.std.specs.List.{AllByRecursion};
     ghost use Rattle.mip_links.specs.Table.{Post};
-    ghost use Rattle.mip_afresh.specs.Tellings.{post_seen, IsLong};
+    ghost use Rattle.mip_afresh.specs.Tellings.{post_seen};
 
     ghost Value = { List Post };
 
     ghost view = { λ p. map post_seen p.list.items };
-
-    ghost invariant = { λ p. AllByRecursion IsLong p.list.items };
 }
 
 impl Posts {
@@ -41,7 +38,6 @@ impl Posts {
     }
 
     pub(crate) fn push(&mut self, post: Posted) -> Result<(), Memory>
-        requires { 40 ≤ length post.packet }
         ensures { OnOk result (self.new ≡ self.old ++ post_seen post ∷ []) }
     {
         self.list.push(post)?;
@@ -50,8 +46,7 @@ impl Posts {
 
     /// The packet with this number.
     pub(crate) fn get(&self, number: usize) -> Option<&Posted>
-        ensures found { option_map (λ p. post_seen p.now) result ≡ slice_get self.now number }
-        ensures long { IfSome result (λ p. 40 ≤ length p.now.packet) }
+        ensures { option_map (λ p. post_seen p.now) result ≡ slice_get self.now number }
     {
         self.list.get(number)
     }

@@ -1,4 +1,4 @@
-ghost use Rattle.std.specs.Prelude.{◌≡◌, ◌<◌, ◌≤◌, ◌∷◌, ◌++◌, ℕ, [], List, length, OnOk, IfOk, slice_set, true};
+ghost use Rattle.std.specs.Prelude.{◌≡◌, ◌∷◌, ◌++◌, ℕ, [], length, OnOk, true};
 ghost use Rattle.mip_entries.specs.declared.entry.Entry.{Entry};
 ghost use Rattle.mip_history.specs.Runs.{note, notes, without};
 ghost use Rattle.mip_history.specs.Knowing.{now_in};
@@ -36,7 +36,7 @@ pub struct Telling {
 }
 
 impl Model for Telling {
-    ghost use Rattle.std.specs.Prelude.{◌≡◌, ◌≤◌, length, map};
+    ghost use Rattle.std.specs.Prelude.{◌≡◌, map};
     ghost use Rattle.mip_history.specs.Questions.{moment_in};
     ghost use Rattle.mip_afresh.specs.Tellings.{TellingSeen, pasts_of};
     ghost use Rattle.mip_afresh.specs.Roles.{agent_past, mobile_past, AreOf};
@@ -55,7 +55,7 @@ impl Model for Telling {
       };
     } };
 
-    ghost invariant = { λ t. (length t.setting.links ≤ 32) × (length t.setting.hosts ≤ 32) × (t.moment.0 ≡ moment_in t.setting.start t.past) × AreOf t.setting t.roles.items };
+    ghost invariant = { λ t. (t.moment.0 ≡ moment_in t.setting.start t.past) × AreOf t.setting t.roles.items };
 }
 
 impl Telling {
@@ -79,7 +79,6 @@ impl Telling {
 
     /// A packet enters the pool.
     pub(crate) fn enter(&mut self, post: Posted) -> Result<(), Memory>
-        requires { 40 ≤ length post.packet }
         ensures { OnOk result (self.new ≡ with_run (record self.old.run { posts = self.old.run.posts ++ post_seen post ∷ []; flying = self.old.run.flying ++ true ∷ [] }) self.old) }
     {
         self.flying.push(true)?;

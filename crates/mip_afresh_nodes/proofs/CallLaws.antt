@@ -1,8 +1,9 @@
 -- What a home agent or a mobile does that was taken out of a run, and put back, is what it does in the run.
-use Rattle.std.proofs.Common.{◌≡◌, ℕ, zero, suc, ◌<◌, ◌^◌, List, [], ◌∷◌, true, false, length, refl, sym, ap, ◌∙◌, subst, get_or-set_same}
-use Rattle.std.specs.Prelude.{Option, Some, None, unwrap_or, slice_get, slice_set, slice_index_or}
+use Rattle.std.proofs.Common.{◌≡◌, ℕ, zero, suc, ◌<◌, List, [], ◌∷◌, length, refl, sym, ap, ◌∙◌, subst, get_or-set_same}
+use Rattle.std.specs.Prelude.{Option, Some, None, unwrap_or, slice_set}
 use Rattle.mip_words.specs.declared.address.Address.{Address}
 use Rattle.mip_nonce.specs.Secrets.{Life}
+use Rattle.mip_outside.specs.Places.{Around}
 use Rattle.mip_entries.specs.declared.answer.Answer.{Answer}
 use Rattle.mip_entries.specs.Stamped.{Stamped}
 use Rattle.mip_rules_agent.specs.Calls as agents
@@ -16,7 +17,7 @@ use Rattle.mip_rules_mobile.specs.Questions as mobile_questions
 use Rattle.mip_rules_mobile.specs.Transitions as mobile_transitions
 use Rattle.mip_rules_mobile.specs.Doing as mobile_doing
 use Rattle.mip_history.specs.Setup.{Setup}
-use Rattle.mip_history.specs.Runs.{Run, with_agent_past, with_mobile_past, agent_past_at, mobile_past_at}
+use Rattle.mip_history.specs.Runs.{Run, with_agent_past, with_mobile_past}
 use Rattle.mip_history.specs.RunsLaws.{IsRun}
 use Rattle.mip_history.specs.Calls.{Call, for_agent, for_mobile}
 use Rattle.mip_history.specs.Knowing.{link_or_first, now_in, secrets_in, stands_on, around_in, agent_of, agent_known_in, mobile_known_in}
@@ -26,13 +27,33 @@ use Rattle.mip_afresh_agent.specs.Agents.{AgentSeen}
 use Rattle.mip_afresh_mobile.specs.Nodes as of_mobile
 use Rattle.mip_afresh_mobile.specs.Nodes.{NodeSeen}
 use Rattle.mip_afresh.specs.declared.role.Role.TheVariants.{Agent, Mobile}
+use Rattle.mip_afresh_nodes.specs.declared.agent_call.AgentCall.{AgentCall}
+use Rattle.mip_afresh_nodes.specs.declared.agent_call.AgentCall.TheVariants as agent_calls
+use Rattle.mip_afresh_nodes.specs.declared.mobile_call.MobileCall.{MobileCall}
+use Rattle.mip_afresh_nodes.specs.declared.mobile_call.MobileCall.TheVariants as mobile_calls
+use Rattle.mip_afresh_nodes.specs.AgentCalls.{asked_of_agent, call_of_agent}
+use Rattle.mip_afresh_nodes.specs.MobileCalls.{asked_of_mobile, call_of_mobile}
 use Rattle.mip_afresh.specs.Tellings.{TellingSeen, with_run}
-use Rattle.mip_afresh.specs.Roles.{agent_host, mobile_host, IsAgent, IsMobile, IsAgentOut, IsMobileOut, IsTaken}
+use Rattle.mip_afresh.specs.Roles.{IsAgent, IsMobile, IsTaken}
 
 pub set_again : {X : Type 0} (xs : List X) (n : ℕ) (x y : X) → slice_set (slice_set xs n x) n y ≡ slice_set xs n y
 set_again [] n x y = refl
 set_again (z ∷ zs) zero x y = refl
 set_again (z ∷ zs) (suc n) x y = ap (λ (l : List _). z ∷ l) (set_again zs n x y)
+
+-- what one is asked for is that of its role
+pub agent_asked : (around : Around) (call : AgentCall) → for_agent around (asked_of_agent call) ≡ Some (call_of_agent around call)
+agent_asked around (agent_calls.Take number shield packet) = refl
+agent_asked around agent_calls.Tick = refl
+agent_asked around (agent_calls.Plan valid preferred) = refl
+agent_asked around (agent_calls.Hear router) = refl
+
+pub mobile_asked : (around : Around) (home : Address) (call : MobileCall) → for_mobile around home (asked_of_mobile call) ≡ Some (call_of_mobile around home call)
+mobile_asked around home mobile_calls.Tick = refl
+mobile_asked around home (mobile_calls.Attach prefix) = refl
+mobile_asked around home mobile_calls.Leave = refl
+mobile_asked around home mobile_calls.Ask = refl
+mobile_asked around home (mobile_calls.Restart secrets) = refl
 
 -- a home agent
 module _ (s : Setup) (run : Run) (n : ℕ) (a : AgentSeen) (is : IsAgent s n a) (inside : n < length run.agent_pasts) where
@@ -117,14 +138,8 @@ module _ (old new : TellingSeen) (n : ℕ) where
   pub agent_back : (a : AgentSeen) (call : Call) → IsTaken old new n (Agent a) → with_run (acts new.setup n call (with_agent_past n a.past new.run)) new ≡ with_run (acts old.setup n call old.run) old
   agent_back a call taken = sym (ap (λ (t : TellingSeen). with_run (acts t.setup n call t.run) t) taken.1)
 
-  pub agent_early : (a : AgentSeen) → IsTaken old new n (Agent a) → now_in old.setup old.run < 2 ^ 62 → now_in new.setup new.run < 2 ^ 62
-  agent_early a taken early = subst (λ (t : TellingSeen). now_in t.setup t.run < 2 ^ 62) taken.1 early
-
   pub mobile_back : (m : NodeSeen) (call : Call) → IsTaken old new n (Mobile m) → with_run (acts new.setup n call (with_mobile_past n m.past new.run)) new ≡ with_run (acts old.setup n call old.run) old
   mobile_back m call taken = sym (ap (λ (t : TellingSeen). with_run (acts t.setup n call t.run) t) taken.1)
-
-  pub mobile_early : (m : NodeSeen) → IsTaken old new n (Mobile m) → now_in old.setup old.run < 2 ^ 62 → now_in new.setup new.run < 2 ^ 62
-  mobile_early m taken early = subst (λ (t : TellingSeen). now_in t.setup t.run < 2 ^ 62) taken.1 early
 
   pub mobile_run : (m : NodeSeen) → IsTaken old new n (Mobile m) → IsRun old.setup old.run → IsRun new.setup (with_mobile_past n m.past new.run)
   mobile_run m taken run = subst (λ (t : TellingSeen). IsRun t.setup t.run) taken.1 run

@@ -1,5 +1,5 @@
 -- A packet that was heard and noted as handed over leaves a run as it was for its nodes.
-use Rattle.std.proofs.Common.{◌≡◌, ℕ, ◌<◌, ◌^◌, List, Bool, true, false, refl, sym, ap, ◌∙◌, subst}
+use Rattle.std.proofs.Common.{◌≡◌, ℕ, List, Bool, true, false, refl, sym, ap, ◌∙◌, subst}
 use Rattle.std.specs.Prelude.{Option, Some, None, if◌then◌else◌}
 use Rattle.mip_words.specs.declared.shield.Shield.{Shield}
 use Rattle.mip_words.specs.declared.ids.NodeId.{NodeId}
@@ -7,7 +7,6 @@ use Rattle.mip_entries.specs.declared.entry.Entry.TheVariants.{Handed as Hands}
 use Rattle.mip_links.specs.Table.{Post}
 use Rattle.mip_history.specs.Setup.{Setup}
 use Rattle.mip_history.specs.Runs.{Run, note, without}
-use Rattle.mip_history.specs.Knowing.{now_in}
 use Rattle.mip_history.specs.Calls.{Take}
 use Rattle.mip_history.specs.Nodes.{acts}
 use Rattle.mip_history.specs.Delivery.{arrival_link, overheard_at, delivered}
@@ -32,8 +31,7 @@ quiet_handed s before after k node is =
     subst (IsQuiet s before) (sym is.is)
     (quiet_then s before heard (note (Hands k node) heard) (quiet_overheard s is.post k (arrival_link s is.post) before) (quiet_one s heard (Hands k node) refl))
 
--- where a packet was handed to a node, the run in which that acts is a run, at the same moment; and what the node does completes
--- the delivery
+-- where a packet was handed to a node, the run in which that acts is a run; and what the node does completes the delivery
 module _ (old new : TellingSeen) (k : ℕ) (keep : Bool) (a : Arrival) (arrives : Arrives old new k keep a) where
   module _ (node : NodeId) (shield : Option Shield) (packet : List ℕ) (e : a ≡ Handed node shield packet) where
     here : Arrives old new k keep (Handed node shield packet)
@@ -47,9 +45,6 @@ module _ (old new : TellingSeen) (k : ℕ) (keep : Bool) (a : Arrival) (arrives 
 
     pub handed_run : IsRun old.setup old.run → IsRun new.setup new.run
     handed_run run = subst (λ (s : Setup). IsRun s new.run) (sym here.same) (goes run).run
-
-    pub handed_early : IsRun old.setup old.run → now_in old.setup old.run < 2 ^ 62 → now_in new.setup new.run < 2 ^ 62
-    handed_early run early = subst (λ (s : Setup). now_in s new.run < 2 ^ 62) (sym here.same) (subst (λ (n : ℕ). n < 2 ^ 62) (sym (goes run).moment) early)
 
     pub handed_whole : with_run (acts new.setup node.0 (Take k shield packet) new.run) new ≡ with_run (delivered old.setup old.run k keep) old
     handed_whole =

@@ -4,3 +4,5 @@ pub mod Rows
 pub mod Plain
 pub mod Routers
 pub mod Waits
+pub mod AgentCalls
+pub mod MobileCalls

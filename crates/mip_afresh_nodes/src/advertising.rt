@@ -8,8 +8,10 @@ ghost use Rattle.mip_history.specs.Advertising.{is_link, router_at, hears_of_rou
 ghost use Rattle.mip_afresh.specs.Tellings.{with_run};
 ghost use Rattle.mip_afresh_nodes.specs.Routers.{router_seen};
 
-use crate::agents::tell_agent;
-use crate::mobiles::attach_mobile;
+use crate::agent_call::AgentCall;
+use crate::agents::ask_agent;
+use crate::mobile_call::MobileCall;
+use crate::mobiles::ask_mobile;
 use crate::router::Router;
 use mip_afresh::{Kind, Role, Telling};
 use mip_entries::Entry;
@@ -50,7 +52,7 @@ fn hear(alloc: Global, telling: &mut Telling, node: NodeId, router: &Router) -> 
     ensures { OnOk result (telling.new ≡ with_run (acts telling.old.setup node.0 (asked_for.Hear router.now.address router.now.preference router.now.life) telling.old.run) telling.old) }
 {
     match telling.take_role(node) {
-        Role::Agent(agent) => tell_agent(alloc, telling, node, agent, router),
+        Role::Agent(agent) => ask_agent(alloc, telling, node, agent, &AgentCall::Hear(*router)),
         Role::Mobile(_mobile) => Err(Memory),
         Role::Plain => Err(Memory),
     }
@@ -153,7 +155,9 @@ fn attach(alloc: Global, telling: &mut Telling, node: NodeId, prefix: Prefix) ->
     ensures { OnOk result (telling.new ≡ with_run (acts telling.old.setup node.0 (asked_for.Attach prefix.0) telling.old.run) telling.old) }
 {
     match telling.take_role(node) {
-        Role::Mobile(mobile) => attach_mobile(alloc, telling, node, mobile, prefix),
+        Role::Mobile(mobile) => {
+            ask_mobile(alloc, telling, node, mobile, MobileCall::Attach(prefix))
+        }
         Role::Agent(_agent) => Err(Memory),
         Role::Plain => Err(Memory),
     }

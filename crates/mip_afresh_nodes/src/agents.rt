@@ -1,30 +1,23 @@
 //! What home agents do in a run.
 
-ghost use Rattle.std.specs.Prelude.{◌≡◌, ◌<◌, ◌^◌, IfOk, OnOk};
-ghost use Rattle.mip_history.specs.Calls as asked_for;
+ghost use Rattle.std.specs.Prelude.{◌≡◌, None, IfOk, OnOk};
+ghost use Rattle.mip_rules_agent.specs.Steps.{answers_of};
 ghost use Rattle.mip_history.specs.Runs.{with_agent_past};
-ghost use Rattle.mip_history.specs.Knowing.{link_or_first, now_in};
+ghost use Rattle.mip_history.specs.Knowing.{link_or_first, now_in, around_in};
 ghost use Rattle.mip_history.specs.Nodes.{answered, acts};
+ghost use Rattle.mip_afresh_agent.specs.Agents.{transition_at, after_call};
 ghost use Rattle.mip_afresh.specs.Tellings.{with_run};
 ghost use Rattle.mip_afresh.specs.Roles.{IsAgent, IsAgentOut};
+ghost use Rattle.mip_afresh_nodes.specs.AgentCalls.{asked_of_agent, call_of_agent};
 
+use crate::agent_call::AgentCall;
 use crate::claims::claim_by_agent;
-use crate::router::Router;
+use crate::early::early;
 use mip_afresh::Telling;
 use mip_afresh_agent::Agent;
 use mip_entries::Answers;
-use mip_words::{Address, Memory, Moment, NodeId, Shield};
+use mip_words::{Address, Memory, NodeId};
 use std::alloc::Global;
-
-/// A moment below 2^62 ms. A later one, which no schedule comes to, is answered as if memory had run out.
-fn early(now: Moment) -> Result<Moment, Memory>
-    ensures { IfOk result (λ m. (m ≡ now) × (m.0 < 2 ^ 62)) }
-{
-    if now.0 >= 0x4000_0000_0000_0000 {
-        return Err(Memory);
-    }
-    Ok(now)
-}
 
 /// A home agent is put back, and what it did follows.
 fn answer_agent(
@@ -43,77 +36,51 @@ fn answer_agent(
     telling.answer(alloc, node, from, answers)
 }
 
-/// A packet is handed to a home agent that was taken out of the run.
-pub(crate) fn hand_to_agent(
+/// What a home agent does about what it is asked for.
+fn agent_answers(
     alloc: Global,
-    telling: &mut Telling,
+    telling: &Telling,
     node: NodeId,
-    mut agent: Agent,
-    number: u64,
-    shield: Option<Shield>,
-    packet: &[u8],
-) -> Result<(), Memory>
-    requires early { now_in telling.old.setup telling.old.run < 2 ^ 62 }
-    requires out { IsAgentOut telling.old node.0 agent }
-    ensures { OnOk result (telling.new ≡ with_run (acts telling.old.setup node.0 (asked_for.Take number shield packet.now) (with_agent_past node.0 agent.past telling.old.run)) telling.old) }
+    agent: &mut Agent,
+    call: &AgentCall<'_>,
+) -> Result<Answers, Memory>
+    ensures answers { IfOk result (λ a. a ≡ answers_of (transition_at agent.old (now_in telling.now.setup telling.now.run) (call_of_agent (around_in telling.now.run node.0 None) call.now)).steps) }
+    ensures goes_on { OnOk result (agent.new ≡ after_call agent.old (now_in telling.now.setup telling.now.run) (call_of_agent (around_in telling.now.run node.0 None) call.now)) }
 {
-    let own = agent.own();
-    let claim = claim_by_agent(telling, node, packet);
-    let answers = agent.take(alloc, telling.now(), number, shield, packet, claim)?;
-    answer_agent(alloc, telling, node, own, agent, answers)
+    let now = early(telling.now())?;
+    match call {
+        AgentCall::Take {
+            number,
+            shield,
+            packet,
+        } => {
+            let claim = claim_by_agent(telling, node, packet);
+            agent.take(alloc, now, *number, *shield, packet, claim)
+        }
+        AgentCall::Tick => agent.tick(alloc, now),
+        AgentCall::Plan { valid, preferred } => agent.plan(alloc, now, *valid, *preferred),
+        AgentCall::Hear(router) => agent.hear(
+            alloc,
+            now,
+            router.address,
+            router.preference,
+            router.life,
+        ),
+    }
 }
 
-/// Time goes on for a home agent that was taken out of the run.
-pub(crate) fn tick_agent(
+/// A home agent that was taken out of the run does what it is asked for.
+pub(crate) fn ask_agent(
     alloc: Global,
     telling: &mut Telling,
     node: NodeId,
     mut agent: Agent,
+    call: &AgentCall<'_>,
 ) -> Result<(), Memory>
     requires { IsAgentOut telling.old node.0 agent }
-    ensures { OnOk result (telling.new ≡ with_run (acts telling.old.setup node.0 asked_for.Tick (with_agent_past node.0 agent.past telling.old.run)) telling.old) }
+    ensures { OnOk result (telling.new ≡ with_run (acts telling.old.setup node.0 (asked_of_agent call.now) (with_agent_past node.0 agent.past telling.old.run)) telling.old) }
 {
     let own = agent.own();
-    let answers = agent.tick(alloc, early(telling.now())?)?;
-    answer_agent(alloc, telling, node, own, agent, answers)
-}
-
-/// A home agent that was taken out of the run plans the lifetimes of its prefix, in seconds.
-pub(crate) fn plan_by_agent(
-    alloc: Global,
-    telling: &mut Telling,
-    node: NodeId,
-    mut agent: Agent,
-    valid: u32,
-    preferred: u32,
-) -> Result<(), Memory>
-    requires early { now_in telling.old.setup telling.old.run < 2 ^ 62 }
-    requires out { IsAgentOut telling.old node.0 agent }
-    ensures { OnOk result (telling.new ≡ with_run (acts telling.old.setup node.0 (asked_for.Plan valid preferred) (with_agent_past node.0 agent.past telling.old.run)) telling.old) }
-{
-    let own = agent.own();
-    let answers = agent.plan(alloc, telling.now(), valid, preferred)?;
-    answer_agent(alloc, telling, node, own, agent, answers)
-}
-
-/// A home agent that was taken out of the run hears of another one.
-pub(crate) fn tell_agent(
-    alloc: Global,
-    telling: &mut Telling,
-    node: NodeId,
-    mut agent: Agent,
-    router: &Router,
-) -> Result<(), Memory>
-    requires { IsAgentOut telling.old node.0 agent }
-    ensures { OnOk result (telling.new ≡ with_run (acts telling.old.setup node.0 (asked_for.Hear router.now.address router.now.preference router.now.life) (with_agent_past node.0 agent.past telling.old.run)) telling.old) }
-{
-    let own = agent.own();
-    let answers = agent.hear(
-        alloc,
-        early(telling.now())?,
-        router.address,
-        router.preference,
-        router.life,
-    )?;
+    let answers = agent_answers(alloc, telling, node, &mut agent, call)?;
     answer_agent(alloc, telling, node, own, agent, answers)
 }

@@ -1,73 +1,59 @@
 //! What a correspondent does about what it is asked for.
 
-ghost use Rattle.std.specs.Prelude.{◌≡◌, ◌≤◌, ◌<◌, ◌^◌, Option, IfOk, IsTrue, IsFalse, length};
+ghost use Rattle.std.specs.Prelude.{◌≡◌, Option, IfOk};
 ghost use Rattle.mip_words.specs.declared.shield.Shield.{Shield};
-ghost use Rattle.mip_words.specs.Addresses.{is_routable};
-ghost use Rattle.mip_ipv6.specs.Packet.{names_no_body};
 ghost use Rattle.mip_rules_correspondent.specs.Calls as asked_for;
-ghost use Rattle.mip_history.specs.RunsLaws.{IsRun};
-ghost use Rattle.mip_history.specs.Knowing.{now_in};
-ghost use Rattle.mip_afresh_nodes.specs.Members.{IsMember, AreAnswers};
+ghost use Rattle.mip_afresh_nodes.specs.Members.{AreAnswersAt};
 
+use crate::early::early;
 use crate::keeping::{held_for, kept_for};
-use crate::member::{Member, identity};
-use mip_afresh::Telling;
+use crate::member::identity;
+use crate::payload::Payload;
+use crate::routable::Routable;
+use crate::standing::Standing;
 use mip_entries::Answers;
-use mip_words::{Address, Memory};
+use mip_words::Memory;
 use std::alloc::Global;
 
 /// What a correspondent does about a packet that it is handed under a number.
 pub(crate) fn about_packet(
     alloc: Global,
-    telling: &Telling,
-    member: Member,
+    standing: &Standing<'_>,
     number: u64,
     packet: &[u8],
 ) -> Result<Answers, Memory>
-    requires run { IsRun telling.now.setup telling.now.run }
-    requires early { now_in telling.now.setup telling.now.run < 2 ^ 62 }
-    requires member { IsMember telling.now.setup member }
-    ensures { (shield : Option Shield) → IfOk result (AreAnswers telling.now.setup telling.now.run member (asked_for.Take number shield packet.now)) }
+    ensures { (shield : Option Shield) → IfOk result (AreAnswersAt standing.now (asked_for.Take number shield packet.now)) }
 {
-    let me = identity(telling, member)?;
-    let kept = kept_for(alloc, telling, member, packet)?;
-    mip_afresh_rules::take(alloc, &me, telling.now(), number, kept, packet)
+    let telling = standing.telling;
+    let me = identity(telling, standing.member)?;
+    let now = early(telling.now())?;
+    let kept = kept_for(alloc, standing, packet)?;
+    mip_afresh_rules::take(alloc, &me, now, number, kept, packet)
 }
 
 /// What a correspondent does about data that it is asked to send.
 pub(crate) fn about_data(
     alloc: Global,
-    telling: &Telling,
-    member: Member,
-    to: Address,
-    proto: u8,
-    payload: &[u8],
+    standing: &Standing<'_>,
+    to: Routable,
+    payload: &Payload<'_>,
 ) -> Result<Answers, Memory>
-    requires run { IsRun telling.now.setup telling.now.run }
-    requires member { IsMember telling.now.setup member }
-    requires routable { IsTrue (is_routable to.0) }
-    requires proto { IsFalse (names_no_body proto) }
-    requires short { length payload.now ≤ 512 }
-    ensures { IfOk result (AreAnswers telling.now.setup telling.now.run member (asked_for.Send to proto payload.now)) }
+    ensures { IfOk result (AreAnswersAt standing.now (asked_for.Send to.address payload.now.proto payload.now.bytes.now)) }
 {
-    let me = identity(telling, member)?;
-    let held = held_for(alloc, telling, member, to)?;
-    mip_afresh_rules::send(alloc, &me, to, proto, payload, held)
+    let me = identity(standing.telling, standing.member)?;
+    let held = held_for(alloc, standing, to.address)?;
+    mip_afresh_rules::send(alloc, &me, to.address, payload.proto, payload.bytes, held)
 }
 
 /// What a correspondent does about a refresh that it is asked for.
 pub(crate) fn about_refresh(
     alloc: Global,
-    telling: &Telling,
-    member: Member,
-    home: Address,
+    standing: &Standing<'_>,
+    home: Routable,
 ) -> Result<Answers, Memory>
-    requires run { IsRun telling.now.setup telling.now.run }
-    requires member { IsMember telling.now.setup member }
-    requires routable { IsTrue (is_routable home.0) }
-    ensures { IfOk result (AreAnswers telling.now.setup telling.now.run member (asked_for.Refresh home)) }
+    ensures { IfOk result (AreAnswersAt standing.now (asked_for.Refresh home.address)) }
 {
-    let me = identity(telling, member)?;
-    let held = held_for(alloc, telling, member, home)?;
-    mip_afresh_rules::refresh(alloc, &me, home, held)
+    let me = identity(standing.telling, standing.member)?;
+    let held = held_for(alloc, standing, home.address)?;
+    mip_afresh_rules::refresh(alloc, &me, home.address, held)
 }

@@ -1,23 +1,25 @@
 //! The calls of a node. What is nothing to it, and a node that is not declared, leaves `idle`.
 
-ghost use Rattle.std.specs.Prelude.{◌≡◌, ◌≤◌, ◌<◌, ◌^◌, OnOk, IsTrue, IsFalse, length};
-ghost use Rattle.mip_words.specs.Addresses.{is_routable};
-ghost use Rattle.mip_ipv6.specs.Packet.{names_no_body};
+ghost use Rattle.std.specs.Prelude.{◌≡◌, OnOk};
 ghost use Rattle.mip_history.specs.RunsLaws.{IsRun};
 ghost use Rattle.mip_history.specs.Calls as asked_for;
-ghost use Rattle.mip_history.specs.Knowing.{now_in};
 ghost use Rattle.mip_history.specs.Nodes.{acts};
 ghost use Rattle.mip_afresh.specs.Tellings.{with_run};
-ghost use Rattle.mip_afresh_nodes.specs.Members.{IsMember};
+ghost use Rattle.mip_afresh_nodes.specs.Members.{Stands};
 
 use crate::acting::act;
-use crate::agents::{hand_to_agent, plan_by_agent};
+use crate::agent_call::AgentCall;
+use crate::agents::ask_agent;
 use crate::answers::{about_data, about_packet, about_refresh};
 use crate::idling::{idle_agent, idle_mobile, idle_plain};
 use crate::member::{Member, member_of};
-use crate::mobiles::{ask_by_mobile, hand_to_mobile, refresh_by_mobile, send_by_mobile};
+use crate::mobile_call::MobileCall;
+use crate::mobiles::{ask_mobile, hand_to_mobile, refresh_by_mobile, send_by_mobile};
+use crate::payload::Payload;
+use crate::routable::Routable;
+use crate::standing::Standing;
 use mip_afresh::{Asked, Role, Telling};
-use mip_words::{Address, Bytes, Memory, NodeId, Shield};
+use mip_words::{Bytes, Memory, NodeId, Shield};
 use std::alloc::Global;
 
 /// A packet is handed to a correspondent.
@@ -29,12 +31,11 @@ fn take_as(
     shield: Option<Shield>,
     packet: Bytes,
 ) -> Result<(), Memory>
-    requires run { IsRun telling.old.setup telling.old.run }
-    requires early { now_in telling.old.setup telling.old.run < 2 ^ 62 }
-    requires member { IsMember telling.old.setup member }
+    requires { Stands telling.old member }
     ensures { OnOk result (telling.new ≡ with_run (acts telling.old.setup member.node.0 (asked_for.Take number shield packet) telling.old.run) telling.old) }
 {
-    let answers = about_packet(alloc, telling, member, number, packet.as_slice())?;
+    let standing = Standing { telling, member };
+    let answers = about_packet(alloc, &standing, number, packet.as_slice())?;
     let asked = Asked::Take {
         number,
         shield,
@@ -52,21 +53,17 @@ pub fn take(
     shield: Option<Shield>,
     packet: Bytes,
 ) -> Result<(), Memory>
-    requires run { IsRun telling.old.setup telling.old.run }
-    requires early { now_in telling.old.setup telling.old.run < 2 ^ 62 }
+    requires { IsRun telling.old.setup telling.old.run }
     ensures { OnOk result (telling.new ≡ with_run (acts telling.old.setup node.0 (asked_for.Take number shield packet) telling.old.run) telling.old) }
 {
     match telling.take_role(node) {
         Role::Agent(agent) => {
-            hand_to_agent(
-                alloc,
-                telling,
-                node,
-                agent,
+            let call = AgentCall::Take {
                 number,
                 shield,
-                packet.as_slice(),
-            )
+                packet: packet.as_slice(),
+            };
+            ask_agent(alloc, telling, node, agent, &call)
         }
         Role::Mobile(mobile) => {
             hand_to_mobile(
@@ -91,46 +88,38 @@ fn send_as(
     alloc: Global,
     telling: &mut Telling,
     member: Member,
-    to: Address,
-    proto: u8,
-    payload: &[u8],
+    to: Routable,
+    payload: &Payload<'_>,
 ) -> Result<(), Memory>
-    requires run { IsRun telling.old.setup telling.old.run }
-    requires member { IsMember telling.old.setup member }
-    requires routable { IsTrue (is_routable to.0) }
-    requires proto { IsFalse (names_no_body proto) }
-    requires short { length payload.now ≤ 512 }
-    ensures { OnOk result (telling.new ≡ with_run (acts telling.old.setup member.node.0 (asked_for.Send to proto payload.now) telling.old.run) telling.old) }
+    requires { Stands telling.old member }
+    ensures { OnOk result (telling.new ≡ with_run (acts telling.old.setup member.node.0 (asked_for.Send to.address payload.now.proto payload.now.bytes.now) telling.old.run) telling.old) }
 {
-    let answers = about_data(alloc, telling, member, to, proto, payload)?;
+    let standing = Standing { telling, member };
+    let answers = about_data(alloc, &standing, to, payload)?;
     let asked = Asked::Send {
-        to,
-        proto,
-        payload: Bytes::copy(alloc, payload)?,
+        to: to.address,
+        proto: payload.proto,
+        payload: Bytes::copy(alloc, payload.bytes)?,
     };
     act(alloc, telling, member, asked, answers)
 }
 
-/// A node is to send data. Its protocol names a body, and it is of 512 bytes at most.
+/// A node is to send data.
 pub fn send(
     alloc: Global,
     telling: &mut Telling,
     node: NodeId,
-    to: Address,
-    proto: u8,
-    payload: &[u8],
+    to: Routable,
+    payload: &Payload<'_>,
 ) -> Result<(), Memory>
-    requires run { IsRun telling.old.setup telling.old.run }
-    requires routable { IsTrue (is_routable to.0) }
-    requires proto { IsFalse (names_no_body proto) }
-    requires short { length payload.now ≤ 512 }
-    ensures { OnOk result (telling.new ≡ with_run (acts telling.old.setup node.0 (asked_for.Send to proto payload.now) telling.old.run) telling.old) }
+    requires { IsRun telling.old.setup telling.old.run }
+    ensures { OnOk result (telling.new ≡ with_run (acts telling.old.setup node.0 (asked_for.Send to.address payload.now.proto payload.now.bytes.now) telling.old.run) telling.old) }
 {
     match telling.take_role(node) {
         Role::Agent(agent) => idle_agent(telling, node, agent),
-        Role::Mobile(mobile) => send_by_mobile(alloc, telling, node, mobile, to, proto, payload),
+        Role::Mobile(mobile) => send_by_mobile(alloc, telling, node, mobile, to, payload),
         Role::Plain => match member_of(telling, node)? {
-            Some(member) => send_as(alloc, telling, member, to, proto, payload),
+            Some(member) => send_as(alloc, telling, member, to, payload),
             None => telling.idle(),
         },
     }
@@ -141,15 +130,20 @@ fn refresh_as(
     alloc: Global,
     telling: &mut Telling,
     member: Member,
-    home: Address,
+    home: Routable,
 ) -> Result<(), Memory>
-    requires run { IsRun telling.old.setup telling.old.run }
-    requires member { IsMember telling.old.setup member }
-    requires routable { IsTrue (is_routable home.0) }
-    ensures { OnOk result (telling.new ≡ with_run (acts telling.old.setup member.node.0 (asked_for.Refresh home) telling.old.run) telling.old) }
+    requires { Stands telling.old member }
+    ensures { OnOk result (telling.new ≡ with_run (acts telling.old.setup member.node.0 (asked_for.Refresh home.address) telling.old.run) telling.old) }
 {
-    let answers = about_refresh(alloc, telling, member, home)?;
-    act(alloc, telling, member, Asked::Refresh(home), answers)
+    let standing = Standing { telling, member };
+    let answers = about_refresh(alloc, &standing, home)?;
+    act(
+        alloc,
+        telling,
+        member,
+        Asked::Refresh(home.address),
+        answers,
+    )
 }
 
 /// A node is to ask for a binding of this home to be refreshed (RFC 6275 section 9.5.5).
@@ -157,11 +151,10 @@ pub fn refresh(
     alloc: Global,
     telling: &mut Telling,
     node: NodeId,
-    home: Address,
+    home: Routable,
 ) -> Result<(), Memory>
-    requires run { IsRun telling.old.setup telling.old.run }
-    requires routable { IsTrue (is_routable home.0) }
-    ensures { OnOk result (telling.new ≡ with_run (acts telling.old.setup node.0 (asked_for.Refresh home) telling.old.run) telling.old) }
+    requires { IsRun telling.old.setup telling.old.run }
+    ensures { OnOk result (telling.new ≡ with_run (acts telling.old.setup node.0 (asked_for.Refresh home.address) telling.old.run) telling.old) }
 {
     match telling.take_role(node) {
         Role::Agent(agent) => idle_agent(telling, node, agent),
@@ -181,11 +174,13 @@ pub fn plan(
     valid: u32,
     preferred: u32,
 ) -> Result<(), Memory>
-    requires early { now_in telling.old.setup telling.old.run < 2 ^ 62 }
     ensures { OnOk result (telling.new ≡ with_run (acts telling.old.setup node.0 (asked_for.Plan valid preferred) telling.old.run) telling.old) }
 {
     match telling.take_role(node) {
-        Role::Agent(agent) => plan_by_agent(alloc, telling, node, agent, valid, preferred),
+        Role::Agent(agent) => {
+            let call = AgentCall::Plan { valid, preferred };
+            ask_agent(alloc, telling, node, agent, &call)
+        }
         Role::Mobile(mobile) => idle_mobile(telling, node, mobile),
         Role::Plain => idle_plain(telling, node),
     }
@@ -197,7 +192,7 @@ pub fn ask(alloc: Global, telling: &mut Telling, node: NodeId) -> Result<(), Mem
 {
     match telling.take_role(node) {
         Role::Agent(agent) => idle_agent(telling, node, agent),
-        Role::Mobile(mobile) => ask_by_mobile(alloc, telling, node, mobile),
+        Role::Mobile(mobile) => ask_mobile(alloc, telling, node, mobile, MobileCall::Ask),
         Role::Plain => idle_plain(telling, node),
     }
 }

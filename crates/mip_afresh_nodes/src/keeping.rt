@@ -3,14 +3,12 @@
 ghost use Rattle.std.specs.Prelude.{◌≡◌, map, IfOk};
 ghost use Rattle.mip_ipv6.specs.Reading.{packet_of};
 ghost use Rattle.mip_rules_correspondent.specs.Questions.{held_of};
-ghost use Rattle.mip_history.specs.RunsLaws.{IsRun};
-ghost use Rattle.mip_history.specs.Knowing.{now_in};
 ghost use Rattle.mip_history.specs.Bound.{accepted_by};
 ghost use Rattle.mip_afresh_rules.specs.Keeping.{IsKept, IsKeptFor};
 ghost use Rattle.mip_afresh_bindings.specs.Accepted.{acceptance_seen};
-ghost use Rattle.mip_afresh_nodes.specs.Members.{IsMember, known_to};
+ghost use Rattle.mip_afresh_nodes.specs.Members.{known_at, moment_at};
 
-use crate::member::Member;
+use crate::standing::Standing;
 use mip_afresh::Telling;
 use mip_afresh_bindings::{Acceptance, accepted_by, held, kept_of};
 use mip_afresh_rules::{Kept, Subject, subject_of};
@@ -29,16 +27,11 @@ pub(crate) fn accepted(
 }
 
 /// What a correspondent keeps of the home that a packet is about.
-fn kept_about(
-    alloc: Global,
-    telling: &Telling,
-    member: Member,
-    subject: Subject,
-) -> Result<Kept, Memory>
-    requires run { IsRun telling.now.setup telling.now.run }
-    requires member { IsMember telling.now.setup member }
-    ensures { IfOk result (λ kept. IsKept kept (known_to telling.now.setup telling.now.run member).cache (now_in telling.now.setup telling.now.run) subject.source subject.home) }
+fn kept_about(alloc: Global, standing: &Standing<'_>, subject: Subject) -> Result<Kept, Memory>
+    ensures { IfOk result (λ kept. IsKept kept (known_at standing.now).cache (moment_at standing.now) subject.source subject.home) }
 {
+    let telling = standing.telling;
+    let member = standing.member;
     let accepted = accepted(alloc, telling, member.node)?;
     kept_of(
         alloc,
@@ -53,21 +46,18 @@ fn kept_about(
 /// What a correspondent keeps of what these bytes ask; of bytes that are no packet nothing is asked.
 pub(crate) fn kept_for(
     alloc: Global,
-    telling: &Telling,
-    member: Member,
+    standing: &Standing<'_>,
     packet: &[u8],
 ) -> Result<Kept, Memory>
-    requires run { IsRun telling.now.setup telling.now.run }
-    requires member { IsMember telling.now.setup member }
-    ensures { IfOk result (λ kept. IsKeptFor kept (known_to telling.now.setup telling.now.run member).cache (now_in telling.now.setup telling.now.run) (packet_of packet.now)) }
+    ensures { IfOk result (λ kept. IsKeptFor kept (known_at standing.now).cache (moment_at standing.now) (packet_of packet.now)) }
 {
     match subject_of(packet) {
-        Some(subject) => kept_about(alloc, telling, member, subject),
+        Some(subject) => kept_about(alloc, standing, subject),
         None => Ok(Kept {
             holds: false,
             floor: None,
             is_full: false,
-            numbers: telling.numbers(),
+            numbers: standing.telling.numbers(),
         }),
     }
 }
@@ -75,14 +65,12 @@ pub(crate) fn kept_for(
 /// The care-of address that a correspondent holds for a home.
 pub(crate) fn held_for(
     alloc: Global,
-    telling: &Telling,
-    member: Member,
+    standing: &Standing<'_>,
     home: Address,
 ) -> Result<Option<Address>, Memory>
-    requires run { IsRun telling.now.setup telling.now.run }
-    requires member { IsMember telling.now.setup member }
-    ensures { IfOk result (λ o. o ≡ held_of (known_to telling.now.setup telling.now.run member) (now_in telling.now.setup telling.now.run) home) }
+    ensures { IfOk result (λ o. o ≡ held_of (known_at standing.now) (moment_at standing.now) home) }
 {
-    let accepted = accepted(alloc, telling, member.node)?;
+    let telling = standing.telling;
+    let accepted = accepted(alloc, telling, standing.member.node)?;
     held(alloc, &accepted, home, telling.now())
 }

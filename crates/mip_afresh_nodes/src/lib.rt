@@ -4,19 +4,25 @@
 
 mod acting;
 mod advertising;
+mod agent_call;
 mod agents;
 mod answers;
 mod calls;
 mod claims;
 mod delivering;
+mod early;
 mod idling;
 mod keeping;
 mod member;
+mod mobile_call;
 mod mobiles;
 mod moving;
+mod payload;
 mod restarting;
+mod routable;
 mod router;
 mod showing;
+mod standing;
 mod ticking;
 mod waiting;
 
@@ -24,6 +30,8 @@ pub use advertising::advertise;
 pub use calls::{ask, plan, refresh, send, take};
 pub use delivering::{carry, deliver};
 pub use moving::move_to;
+pub use payload::Payload;
 pub use restarting::restart;
+pub use routable::Routable;
 pub use showing::show;
 pub use waiting::wait;

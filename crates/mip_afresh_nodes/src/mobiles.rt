@@ -1,27 +1,31 @@
 //! What mobiles do in a run.
 
-ghost use Rattle.std.specs.Prelude.{◌≡◌, ◌<◌, ◌≤◌, ◌^◌, length, unwrap_or, IsTrue, IsFalse, OnOk, IfOk};
-ghost use Rattle.mip_words.specs.Addresses.{is_routable};
-ghost use Rattle.mip_ipv6.specs.Packet.{names_no_body};
+ghost use Rattle.std.specs.Prelude.{◌≡◌, Some, unwrap_or, OnOk, IfOk};
 ghost use Rattle.mip_binding.specs.Held.{held};
 ghost use Rattle.mip_rules_mobile.specs.MovingRules.{address_under};
+ghost use Rattle.mip_rules_mobile.specs.Steps.{answers_of};
 ghost use Rattle.mip_history.specs.Calls as asked_for;
 ghost use Rattle.mip_history.specs.Runs.{with_mobile_past};
 ghost use Rattle.mip_history.specs.RunsLaws.{IsRun};
 ghost use Rattle.mip_history.specs.Bound.{accepted_by};
-ghost use Rattle.mip_history.specs.Knowing.{now_in, stands_on};
+ghost use Rattle.mip_history.specs.Knowing.{now_in, around_in, stands_on};
 ghost use Rattle.mip_history.specs.Nodes.{answered, acts};
+ghost use Rattle.mip_afresh_mobile.specs.Nodes.{transition_at, after_call};
 ghost use Rattle.mip_afresh.specs.Tellings.{with_run};
 ghost use Rattle.mip_afresh.specs.Roles.{IsMobile, IsMobileOut};
 ghost use Rattle.mip_afresh_bindings.specs.Homes.{address_seen};
+ghost use Rattle.mip_afresh_nodes.specs.MobileCalls.{asked_of_mobile, call_of_mobile};
 
 use crate::claims::claim_by_mobile;
+use crate::early::early;
 use crate::keeping::accepted;
+use crate::mobile_call::MobileCall;
+use crate::payload::Payload;
+use crate::routable::Routable;
 use mip_afresh::Telling;
 use mip_afresh_bindings::held;
 use mip_afresh_mobile::Node;
 use mip_entries::Answers;
-use mip_nonce::Secrets;
 use mip_words::{Address, LinkId, Memory, NodeId, Prefix, Shield};
 use std::alloc::Global;
 
@@ -82,14 +86,14 @@ pub(crate) fn hand_to_mobile(
     shield: Option<Shield>,
     packet: &[u8],
 ) -> Result<(), Memory>
-    requires early { now_in telling.old.setup telling.old.run < 2 ^ 62 }
     requires run { IsRun telling.old.setup (with_mobile_past node.0 mobile.past telling.old.run) }
     requires out { IsMobileOut telling.old node.0 mobile }
     ensures { OnOk result (telling.new ≡ with_run (acts telling.old.setup node.0 (asked_for.Take number shield packet.now) (with_mobile_past node.0 mobile.past telling.old.run)) telling.old) }
 {
     let own = mobile.home();
     let accepted = accepted(alloc, telling, node)?;
-    let answers = mobile.take(alloc, telling.now(), number, shield, packet, &accepted)?;
+    let now = early(telling.now())?;
+    let answers = mobile.take(alloc, now, number, shield, packet, &accepted)?;
     answer_mobile(alloc, telling, node, own, mobile, answers)
 }
 
@@ -99,20 +103,23 @@ pub(crate) fn send_by_mobile(
     telling: &mut Telling,
     node: NodeId,
     mut mobile: Node,
-    to: Address,
-    proto: u8,
-    payload: &[u8],
+    to: Routable,
+    payload: &Payload<'_>,
 ) -> Result<(), Memory>
     requires run { IsRun telling.old.setup (with_mobile_past node.0 mobile.past telling.old.run) }
-    requires routable { IsTrue (is_routable to.0) }
-    requires proto { IsFalse (names_no_body proto) }
-    requires short { length payload.now ≤ 512 }
     requires out { IsMobileOut telling.old node.0 mobile }
-    ensures { OnOk result (telling.new ≡ with_run (acts telling.old.setup node.0 (asked_for.Send to proto payload.now) (with_mobile_past node.0 mobile.past telling.old.run)) telling.old) }
+    ensures { OnOk result (telling.new ≡ with_run (acts telling.old.setup node.0 (asked_for.Send to.address payload.now.proto payload.now.bytes.now) (with_mobile_past node.0 mobile.past telling.old.run)) telling.old) }
 {
     let own = mobile.home();
-    let held = held_by(alloc, telling, node, to)?;
-    let answers = mobile.send(alloc, telling.now(), to, proto, payload, held)?;
+    let held = held_by(alloc, telling, node, to.address)?;
+    let answers = mobile.send(
+        alloc,
+        telling.now(),
+        to.address,
+        payload.proto,
+        payload.bytes,
+        held,
+    )?;
     answer_mobile(alloc, telling, node, own, mobile, answers)
 }
 
@@ -122,95 +129,61 @@ pub(crate) fn refresh_by_mobile(
     telling: &mut Telling,
     node: NodeId,
     mut mobile: Node,
-    home: Address,
+    home: Routable,
 ) -> Result<(), Memory>
     requires run { IsRun telling.old.setup (with_mobile_past node.0 mobile.past telling.old.run) }
-    requires routable { IsTrue (is_routable home.0) }
     requires out { IsMobileOut telling.old node.0 mobile }
-    ensures { OnOk result (telling.new ≡ with_run (acts telling.old.setup node.0 (asked_for.Refresh home) (with_mobile_past node.0 mobile.past telling.old.run)) telling.old) }
+    ensures { OnOk result (telling.new ≡ with_run (acts telling.old.setup node.0 (asked_for.Refresh home.address) (with_mobile_past node.0 mobile.past telling.old.run)) telling.old) }
 {
     let own = mobile.home();
-    let held = held_by(alloc, telling, node, home)?;
-    let answers = mobile.refresh(alloc, telling.now(), home, held)?;
+    let held = held_by(alloc, telling, node, home.address)?;
+    let answers = mobile.refresh(alloc, telling.now(), home.address, held)?;
     answer_mobile(alloc, telling, node, own, mobile, answers)
 }
 
-/// Time goes on for a mobile that was taken out of the run.
-pub(crate) fn tick_mobile(
+/// What a mobile does about what it is asked for.
+fn mobile_answers(
+    alloc: Global,
+    telling: &Telling,
+    node: NodeId,
+    mobile: &mut Node,
+    call: MobileCall,
+) -> Result<Answers, Memory>
+    ensures answers { IfOk result (λ a. a ≡ answers_of (transition_at mobile.old (now_in telling.now.setup telling.now.run)
+        (call_of_mobile (around_in telling.now.run node.0 (Some mobile.old.home.0)) mobile.old.home call)).steps) }
+    ensures goes_on { OnOk result (mobile.new ≡ after_call mobile.old (now_in telling.now.setup telling.now.run)
+        (call_of_mobile (around_in telling.now.run node.0 (Some mobile.old.home.0)) mobile.old.home call)) }
+{
+    let now = telling.now();
+    let home = mobile.home();
+    match call {
+        MobileCall::Tick => mobile.tick(alloc, now),
+        MobileCall::Attach(prefix) => {
+            let of_home = claim_by_mobile(telling, node, home, home);
+            let of_address = claim_by_mobile(telling, node, home, address_under(home, prefix));
+            mobile.attach(alloc, now, prefix, of_home, of_address)
+        }
+        MobileCall::Leave => {
+            let of_home = claim_by_mobile(telling, node, home, home);
+            mobile.leave(alloc, now, of_home)
+        }
+        MobileCall::Ask => mobile.ask(alloc, now),
+        MobileCall::Restart(secrets) => mobile.restart(alloc, now, secrets),
+    }
+}
+
+/// A mobile that was taken out of the run does what it is asked for.
+pub(crate) fn ask_mobile(
     alloc: Global,
     telling: &mut Telling,
     node: NodeId,
     mut mobile: Node,
+    call: MobileCall,
 ) -> Result<(), Memory>
-    requires out { IsMobileOut telling.old node.0 mobile }
-    ensures { OnOk result (telling.new ≡ with_run (acts telling.old.setup node.0 asked_for.Tick (with_mobile_past node.0 mobile.past telling.old.run)) telling.old) }
+    requires { IsMobileOut telling.old node.0 mobile }
+    ensures { OnOk result (telling.new ≡ with_run (acts telling.old.setup node.0 (asked_of_mobile call) (with_mobile_past node.0 mobile.past telling.old.run)) telling.old) }
 {
     let own = mobile.home();
-    let answers = mobile.tick(alloc, telling.now())?;
-    answer_mobile(alloc, telling, node, own, mobile, answers)
-}
-
-/// A router advertises a prefix to a mobile that was taken out of the run.
-pub(crate) fn attach_mobile(
-    alloc: Global,
-    telling: &mut Telling,
-    node: NodeId,
-    mut mobile: Node,
-    prefix: Prefix,
-) -> Result<(), Memory>
-    requires out { IsMobileOut telling.old node.0 mobile }
-    ensures { OnOk result (telling.new ≡ with_run (acts telling.old.setup node.0 (asked_for.Attach prefix.0) (with_mobile_past node.0 mobile.past telling.old.run)) telling.old) }
-{
-    let own = mobile.home();
-    let of_home = claim_by_mobile(telling, node, own, own);
-    let of_address = claim_by_mobile(telling, node, own, address_under(own, prefix));
-    let answers = mobile.attach(alloc, telling.now(), prefix, of_home, of_address)?;
-    answer_mobile(alloc, telling, node, own, mobile, answers)
-}
-
-/// A mobile that was taken out of the run leaves its link.
-pub(crate) fn leave_by_mobile(
-    alloc: Global,
-    telling: &mut Telling,
-    node: NodeId,
-    mut mobile: Node,
-) -> Result<(), Memory>
-    requires out { IsMobileOut telling.old node.0 mobile }
-    ensures { OnOk result (telling.new ≡ with_run (acts telling.old.setup node.0 asked_for.Leave (with_mobile_past node.0 mobile.past telling.old.run)) telling.old) }
-{
-    let own = mobile.home();
-    let of_home = claim_by_mobile(telling, node, own, own);
-    let answers = mobile.leave(alloc, telling.now(), of_home)?;
-    answer_mobile(alloc, telling, node, own, mobile, answers)
-}
-
-/// A mobile that was taken out of the run solicits the prefixes of its home link.
-pub(crate) fn ask_by_mobile(
-    alloc: Global,
-    telling: &mut Telling,
-    node: NodeId,
-    mut mobile: Node,
-) -> Result<(), Memory>
-    requires out { IsMobileOut telling.old node.0 mobile }
-    ensures { OnOk result (telling.new ≡ with_run (acts telling.old.setup node.0 asked_for.Ask (with_mobile_past node.0 mobile.past telling.old.run)) telling.old) }
-{
-    let own = mobile.home();
-    let answers = mobile.ask(alloc, telling.now())?;
-    answer_mobile(alloc, telling, node, own, mobile, answers)
-}
-
-/// A mobile that was taken out of the run begins its next life, with these secrets.
-pub(crate) fn restart_mobile(
-    alloc: Global,
-    telling: &mut Telling,
-    node: NodeId,
-    mut mobile: Node,
-    secrets: Secrets,
-) -> Result<(), Memory>
-    requires out { IsMobileOut telling.old node.0 mobile }
-    ensures { OnOk result (telling.new ≡ with_run (acts telling.old.setup node.0 (asked_for.Restart secrets) (with_mobile_past node.0 mobile.past telling.old.run)) telling.old) }
-{
-    let own = mobile.home();
-    let answers = mobile.restart(alloc, telling.now(), secrets)?;
+    let answers = mobile_answers(alloc, telling, node, &mut mobile, call)?;
     answer_mobile(alloc, telling, node, own, mobile, answers)
 }

@@ -7,7 +7,8 @@ ghost use Rattle.mip_history.specs.Setup.{is_mobile_at};
 ghost use Rattle.mip_history.specs.Permitted.{moves, moves_if};
 ghost use Rattle.mip_afresh.specs.Tellings.{with_run};
 
-use crate::mobiles::leave_by_mobile;
+use crate::mobile_call::MobileCall;
+use crate::mobiles::ask_mobile;
 use mip_afresh::{Kind, Role, Telling};
 use mip_entries::Entry;
 use mip_words::{LinkId, Memory, NodeId};
@@ -28,7 +29,7 @@ fn leave(alloc: Global, telling: &mut Telling, node: NodeId) -> Result<(), Memor
     ensures { OnOk result (telling.new ≡ with_run (acts telling.old.setup node.0 Leave telling.old.run) telling.old) }
 {
     match telling.take_role(node) {
-        Role::Mobile(mobile) => leave_by_mobile(alloc, telling, node, mobile),
+        Role::Mobile(mobile) => ask_mobile(alloc, telling, node, mobile, MobileCall::Leave),
         Role::Agent(_agent) => Err(Memory),
         Role::Plain => Err(Memory),
     }

@@ -14,7 +14,8 @@ ghost use Rattle.mip_afresh.specs.Tellings.{with_run};
 ghost use Rattle.mip_afresh.specs.Roles.{IsAgentOut};
 
 use crate::member::{counted, member_of};
-use crate::mobiles::restart_mobile;
+use crate::mobile_call::MobileCall;
+use crate::mobiles::ask_mobile;
 use crate::moving::is_mobile;
 use mip_afresh::{Role, Telling};
 use mip_afresh_agent::Agent;
@@ -60,7 +61,9 @@ fn renew(alloc: Global, telling: &mut Telling, node: NodeId) -> Result<(), Memor
     let life = counted(telling.life(node))?;
     let secrets = Secrets::new(telling.seed(), node, life);
     match telling.take_role(node) {
-        Role::Mobile(mobile) => restart_mobile(alloc, telling, node, mobile, secrets),
+        Role::Mobile(mobile) => {
+            ask_mobile(alloc, telling, node, mobile, MobileCall::Restart(secrets))
+        }
         Role::Agent(_agent) => Err(Memory),
         Role::Plain => Err(Memory),
     }

@@ -1,20 +1,19 @@
 //! The rows that a node shows.
 
-ghost use Rattle.std.specs.Prelude.{◌≡◌, ◌<◌, ◌^◌, true, map, option_map, IfOk, OnOk};
-ghost use Rattle.mip_bcache.specs.Seen.{rows_at};
+ghost use Rattle.std.specs.Prelude.{◌≡◌, true, map, option_map, IfOk, OnOk};
 ghost use Rattle.mip_history.specs.RunsLaws.{IsRun};
-ghost use Rattle.mip_history.specs.Knowing.{now_in};
 ghost use Rattle.mip_history.specs.Setup.{is_mobile_at};
 ghost use Rattle.mip_history.specs.Runs.{notes};
-ghost use Rattle.mip_history.specs.Nodes.{row_entry, home_entry, shown};
+ghost use Rattle.mip_history.specs.Nodes.{home_entry, shown};
 ghost use Rattle.mip_afresh.specs.Tellings.{with_run};
 ghost use Rattle.mip_afresh_bindings.specs.Showing.{row_seen};
-ghost use Rattle.mip_afresh_nodes.specs.Members.{IsMember, known_to};
 ghost use Rattle.mip_afresh.specs.Roles.{IsAgentOf};
 ghost use Rattle.mip_afresh_nodes.specs.Rows.{entry_of, AreShown};
 
+use crate::early::early;
 use crate::keeping::accepted;
-use crate::member::{Member, member_of};
+use crate::member::member_of;
+use crate::standing::Standing;
 use mip_afresh::{Role, Telling};
 use mip_afresh_agent::Agent;
 use mip_afresh_bindings::{Row, shown_rows};
@@ -50,14 +49,14 @@ fn entries_of(alloc: Global, node: NodeId, rows: &[Row]) -> Result<Vec<Entry>, M
 }
 
 /// What a correspondent shows.
-fn shown_by(alloc: Global, telling: &Telling, member: Member) -> Result<Vec<Entry>, Memory>
-    requires run { IsRun telling.now.setup telling.now.run }
-    requires early { now_in telling.now.setup telling.now.run < 2 ^ 62 }
-    requires member { IsMember telling.now.setup member }
-    ensures { IfOk result (λ v. v.items ≡ map (row_entry member.node.0) (rows_at (known_to telling.now.setup telling.now.run member).cache (now_in telling.now.setup telling.now.run))) }
+fn shown_by(alloc: Global, standing: &Standing<'_>) -> Result<Vec<Entry>, Memory>
+    ensures { IfOk result (λ v. notes v.items standing.now.telling.run ≡ shown standing.now.telling.setup standing.now.member.node.0 standing.now.telling.run) }
 {
+    let telling = standing.telling;
+    let member = standing.member;
     let accepted = accepted(alloc, telling, member.node)?;
-    let rows = shown_rows(alloc, &accepted, telling.now())?;
+    let now = early(telling.now())?;
+    let rows = shown_rows(alloc, &accepted, now)?;
     entries_of(alloc, member.node, &rows)
 }
 
@@ -104,12 +103,12 @@ fn shown_by_agent(
 /// What the correspondent part of a mobile shows.
 fn shown_by_mobile(alloc: Global, telling: &Telling, node: NodeId) -> Result<Vec<Entry>, Memory>
     requires run { IsRun telling.now.setup telling.now.run }
-    requires early { now_in telling.now.setup telling.now.run < 2 ^ 62 }
     requires mobile { is_mobile_at telling.now.setup node.0 ≡ true }
     ensures { IfOk result (λ v. notes v.items telling.now.run ≡ shown telling.now.setup node.0 telling.now.run) }
 {
     let accepted = accepted(alloc, telling, node)?;
-    let rows = shown_rows(alloc, &accepted, telling.now())?;
+    let now = early(telling.now())?;
+    let rows = shown_rows(alloc, &accepted, now)?;
     entries_of(alloc, node, &rows)
 }
 
@@ -119,15 +118,14 @@ fn shown_by_node(
     telling: &Telling,
     node: NodeId,
 ) -> Result<Option<Vec<Entry>>, Memory>
-    requires run { IsRun telling.now.setup telling.now.run }
-    requires early { now_in telling.now.setup telling.now.run < 2 ^ 62 }
+    requires { IsRun telling.now.setup telling.now.run }
     ensures { IfOk result (λ o. AreShown telling.now.setup telling.now.run node.0 (option_map (λ v. v.items) o)) }
 {
     match telling.role(node) {
         Some(Role::Agent(agent)) => Ok(Some(shown_by_agent(alloc, telling, node, agent)?)),
         Some(Role::Mobile(_)) => Ok(Some(shown_by_mobile(alloc, telling, node)?)),
         _ => match member_of(telling, node)? {
-            Some(member) => Ok(Some(shown_by(alloc, telling, member)?)),
+            Some(member) => Ok(Some(shown_by(alloc, &Standing { telling, member })?)),
             None => Ok(None),
         },
     }
@@ -136,8 +134,7 @@ fn shown_by_node(
 /// A node shows the rows of its binding cache, or the homes that it has registered, in order of home, then of number; one that is not
 /// declared leaves `idle`.
 pub fn show(alloc: Global, telling: &mut Telling, node: NodeId) -> Result<(), Memory>
-    requires run { IsRun telling.old.setup telling.old.run }
-    requires early { now_in telling.old.setup telling.old.run < 2 ^ 62 }
+    requires { IsRun telling.old.setup telling.old.run }
     ensures { OnOk result (telling.new ≡ with_run (shown telling.old.setup node.0 telling.old.run) telling.old) }
 {
     match shown_by_node(alloc, telling, node)? {

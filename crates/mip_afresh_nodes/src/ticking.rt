@@ -6,9 +6,11 @@ ghost use Rattle.mip_history.specs.Nodes.{acts};
 ghost use Rattle.mip_history.specs.Waiting.{due_of, sooner, earliest, is_due, ticks_one, ticked};
 ghost use Rattle.mip_afresh.specs.Tellings.{with_run};
 
-use crate::agents::tick_agent;
+use crate::agent_call::AgentCall;
+use crate::agents::ask_agent;
 use crate::member::member_of;
-use crate::mobiles::tick_mobile;
+use crate::mobile_call::MobileCall;
+use crate::mobiles::ask_mobile;
 use mip_afresh::{Role, Telling};
 use mip_words::{Memory, Moment, NodeId};
 use std::alloc::Global;
@@ -64,8 +66,8 @@ fn tick(alloc: Global, telling: &mut Telling, node: NodeId) -> Result<(), Memory
     ensures { OnOk result (telling.new ≡ with_run (acts telling.old.setup node.0 Tick telling.old.run) telling.old) }
 {
     match telling.take_role(node) {
-        Role::Agent(agent) => tick_agent(alloc, telling, node, agent),
-        Role::Mobile(mobile) => tick_mobile(alloc, telling, node, mobile),
+        Role::Agent(agent) => ask_agent(alloc, telling, node, agent, &AgentCall::Tick),
+        Role::Mobile(mobile) => ask_mobile(alloc, telling, node, mobile, MobileCall::Tick),
         Role::Plain => Err(Memory),
     }
 }

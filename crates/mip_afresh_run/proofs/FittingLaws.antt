@@ -1,25 +1,21 @@
 -- Each event of a schedule may happen behind those before it.
-use Rattle.std.proofs.Common.{◌≡◌, ℕ, zero, suc, ◌+◌, ◌<◌, ◌≤◌, ◌^◌, List, [], ◌∷◌, ◌++◌, length, Bool, true, false, refl, sym, ap, subst, arith, drop}
+use Rattle.std.proofs.Common.{◌≡◌, ℕ, zero, suc, ◌<◌, ◌≤◌, List, [], ◌∷◌, ◌++◌, length, Bool, true, false, refl, sym, ap, subst, arith, drop}
 use Rattle.std.proofs.lemmas.Bool.{leb-false}
-use Rattle.std.proofs.lemmas.List.Sums.{sum_by-cons}
 use Rattle.std.specs.Prelude.{Option, Some, None, ◌||◌, ◌==◌, nat_le, nat_lt, take, slice_get, if◌then◌else◌}
-use Rattle.std.specs.List.{sum_by}
 use Rattle.mip_ipv6.specs.Packet.{names_no_body}
 use Rattle.mip_symbols.specs.Places.{AreFew}
 use Rattle.mip_symbols.specs.declared.declaration.Declaration.{Declaration}
 use Rattle.mip_symbols.specs.declared.reason.Reason.{Reason}
 use Rattle.mip_symbols.specs.declared.reason.Reason.TheVariants as reasons
 use Rattle.mip_schedule.specs.Contents.{Content}
-use Rattle.mip_schedule.specs.EventTimes.{wait_of, waited, carried, is_reserved, is_packet, misfit, untimely}
+use Rattle.mip_schedule.specs.EventTimes.{waited, carried, is_reserved, is_packet, misfit, untimely}
 use Rattle.mip_schedule.specs.Lawful.{IsEvent, IsLawful, IsOutsider}
 use Rattle.mip_schedule.specs.Versions.{is_numbered, numbers_in}
 use Rattle.mip_schedule.specs.declared.event.Event.{Event}
-use Rattle.mip_schedule.specs.declared.event.Event.TheVariants.{Wait, Payload, Inject, Bind, Squat, Yield, Refresh}
-use Rattle.mip_history.specs.Setup.{Setup, setup_of}
+use Rattle.mip_schedule.specs.declared.event.Event.TheVariants.{Payload, Inject, Bind, Squat, Yield, Refresh}
+use Rattle.mip_history.specs.Setup.{Setup}
 use Rattle.mip_history.specs.Runs.{Run}
 use Rattle.mip_history.specs.RunsLaws.{IsRun}
-use Rattle.mip_history.specs.Knowing.{now_in}
-use Rattle.mip_history.specs.Passing.{waited_by}
 use Rattle.mip_history.proofs.Events.{run_passes}
 use Rattle.mip_afresh_nodes.specs.Reached.{IsReached}
 use Rattle.mip_afresh_run.specs.Fitting.{IsWithin, IsFit}
@@ -74,31 +70,9 @@ parted [] i event there = absurd cc
 parted (x ∷ xs) zero event there = let same : x ≡ event = cc in ap (λ (e : Event). e ∷ xs) same
 parted (x ∷ xs) (suc i) event there = ap (λ (es : List Event). x ∷ es) (parted xs i event there)
 
--- the waits before an event and its own are some of all
-wait_is : (event : Event) → waited_by event ≡ wait_of event
-wait_is (Wait ms) = refl
-wait_is _ = refl
-
-waits_within : (events : List Event) (i : ℕ) (event : Event) → slice_get events i ≡ Some event → sum_by waited_by (take i events) + wait_of event ≤ sum_by wait_of events
-waits_within [] i event there = absurd cc
-waits_within (x ∷ xs) zero event there =
-    let same : x ≡ event = cc in
-    omega (arith, sum_by-cons wait_of x xs, ap wait_of same)
-waits_within (x ∷ xs) (suc i) event there =
-    omega (arith, sum_by-cons wait_of x xs, sum_by-cons waited_by x (take i xs), wait_is x, waits_within xs i event there)
-
-module _ (c : Content) (lawful : IsLawful c) (few : AreFew c.declarations) (short : waited c.events ≤ 36000000) where
+module _ (c : Content) (lawful : IsLawful c) (few : AreFew c.declarations) where
   abbrev ds : List Declaration
   ds = c.declarations
-
-  -- the moment behind the first events, and how long it may go on
-  now_then : (i : ℕ) (event : Event) → slice_get c.events i ≡ Some event → now_in (setup_of c) (behind c i).run + wait_of event ≤ 2 ^ 40 + 36000000
-  unfolding waited
-  now_then i event there =
-      let moment = (run_passes (setup_of c) (take i c.events)).moment in
-      let within = waits_within c.events i event there in
-      let start = lawful.start in
-      omega arith
 
   outsider_fits : (o : ℕ) → IsOutsider ds o → o < 8
   outsider_fits o declared = omega (arith, declared, few.outsiders)
@@ -119,10 +93,8 @@ module _ (c : Content) (lawful : IsLawful c) (few : AreFew c.declarations) (shor
 
   pub fit : (i : ℕ) (event : Event) → slice_get c.events i ≡ Some event → IsFit (behind c i) event
   fit i event there =
-      let now = now_then i event there in
       let is = lawful.events (take i c.events) event (drop (suc i) c.events) (parted c.events i event there) in
       record {
         reached = record { events = take i c.events; is = refl };
-        early = omega arith;
         within = within (take i c.events) event is;
       }

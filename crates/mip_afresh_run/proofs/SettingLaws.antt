@@ -1,7 +1,8 @@
 -- What a schedule declares, declaration by declaration.
 use Rattle.std.proofs.Common.{◌≡◌, ℕ, suc, ◌+◌, ◌<◌, ◌≤◌, List, [], ◌∷◌, ◌++◌, length, refl, sym, ap, ◌∙◌, arith}
-use Rattle.std.proofs.lemmas.List.{take_more}
-use Rattle.std.specs.Prelude.{take, get_or}
+use Rattle.std.proofs.lemmas.List.{take_more, length-map}
+use Rattle.std.specs.Prelude.{map, take, get_or}
+use Rattle.mip_words.specs.declared.prefix.Prefix.{Prefix}
 use Rattle.mip_symbols.specs.Places.{members, AreFew}
 use Rattle.mip_symbols.specs.declared.declaration.Declaration.{Declaration}
 use Rattle.mip_symbols.specs.declared.declaration.Declaration.TheVariants as declare
@@ -10,6 +11,8 @@ use Rattle.mip_schedule.specs.Contents.{Content}
 use Rattle.mip_schedule.specs.Versions.{numbers_of_version}
 use Rattle.mip_history.specs.Setup.{Setup, Host, links_in, hosts_in, outsiders_in, setup_of}
 use Rattle.mip_history.proofs.Declarations.{hosts_count}
+use Rattle.mip_afresh.specs.Tellings.{host_seen}
+use Rattle.mip_afresh.specs.declared.host.Host as declared_host
 
 links_in-append : (xs ys : List Declaration) → links_in (xs ++ ys) ≡ links_in xs ++ links_in ys
 links_in-append [] ys = refl
@@ -32,11 +35,15 @@ outsiders_counted [] = refl
 outsiders_counted (declare.Outsider name ∷ ds) = ap suc (outsiders_counted ds)
 outsiders_counted (_ ∷ ds) = outsiders_counted ds
 
-pub few_links : (ds : List Declaration) → AreFew ds → length (links_in ds) ≤ 32
-few_links ds few = let many = links_counted ds in let most = few.links in omega arith
+pub few_prefixes : (ds : List Declaration) (links : List Prefix) → AreFew ds → map (λ p. p.0) links ≡ links_in ds → length links ≤ 32
+few_prefixes ds links few are =
+    let listed : length (map (λ p. p.0) links) ≡ length (links_in ds) = ap (λ (l : List ℕ). length l) are in
+    omega (arith, length-map links (λ p. p.0), listed, links_counted ds, few.links)
 
-pub few_hosts : (ds : List Declaration) → AreFew ds → length (hosts_in ds) ≤ 32
-few_hosts ds few = let many = hosts_count ds 0 ds in let most = few.nodes in omega arith
+pub few_nodes : (ds : List Declaration) (hosts : List declared_host.Host) → AreFew ds → map host_seen hosts ≡ hosts_in ds → length hosts ≤ 32
+few_nodes ds hosts few are =
+    let listed : length (map host_seen hosts) ≡ length (hosts_in ds) = ap (λ (l : List Host). length l) are in
+    omega (arith, length-map hosts host_seen, listed, hosts_count ds 0 ds, few.nodes)
 
 -- what is declared, part by part
 pub same_setting : (c : Content) (links : List ℕ) (hosts : List Host) (outsiders numbers : ℕ)

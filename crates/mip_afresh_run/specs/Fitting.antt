@@ -1,10 +1,9 @@
 -- What an event needs to happen in a run. Each event of a schedule has it behind those before it.
-use Rattle.std.specs.Prelude.{◌<◌, ◌≤◌, ◌^◌, length, IsTrue, IsFalse, ⊤}
+use Rattle.std.specs.Prelude.{◌<◌, ◌≤◌, length, IsTrue, IsFalse, ⊤}
 use Rattle.mip_words.specs.Addresses.{is_routable}
 use Rattle.mip_ipv6.specs.Packet.{names_no_body}
 use Rattle.mip_schedule.specs.declared.event.Event.{Event}
 use Rattle.mip_schedule.specs.declared.event.Event.TheVariants.{Payload, Inject, Bind, Squat, Yield, Refresh}
-use Rattle.mip_history.specs.Knowing.{now_in}
 use Rattle.mip_afresh.specs.Tellings.{TellingSeen}
 use Rattle.mip_afresh_nodes.specs.Reached.{IsReached}
 
@@ -23,8 +22,7 @@ IsWithin (Yield outsider address) = outsider < 8
 IsWithin (Refresh node home) = IsTrue (is_routable home.0)
 IsWithin event = CanForge event
 
--- an event may happen in a run that events lead to, at a moment below 2 ^ 62
+-- an event may happen in a run that events lead to
 pub record IsFit (t : TellingSeen) (event : Event) : Type 0 where
   pub reached : IsReached t.setup t.run
-  pub early : now_in t.setup t.run < 2 ^ 62
   pub within : IsWithin event

@@ -4,7 +4,7 @@ ghost use Rattle.mip_schedule.specs.Schedules.{content};
 ghost use Rattle.mip_afresh_run.specs.Fitting.{IsFit};
 ghost use Rattle.mip_afresh_run.specs.Runs.{behind};
 
-use mip_schedule::{Schedule, few, lawful, spelling_read, waits_are_short};
+use mip_schedule::{Schedule, few, lawful};
 
 /// A law: each event of a schedule may happen behind those before it.
 pub(crate) fn fits(schedule: &Schedule)
@@ -12,6 +12,4 @@ pub(crate) fn fits(schedule: &Schedule)
 {
     few(schedule);
     lawful(schedule);
-    spelling_read(schedule);
-    waits_are_short();
 }

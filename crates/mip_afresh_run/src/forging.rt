@@ -1,15 +1,15 @@
 //! The packets that outsiders make: inits of tests, updates and tests.
 
-ghost use Rattle.std.specs.Prelude.{◌≡◌, ◌<◌, ◌≤◌, length, IsTrue, IfOk, IfSome, Some};
-ghost use Rattle.mip_words.specs.Addresses.{is_routable};
+ghost use Rattle.std.specs.Prelude.{◌≡◌, ◌≤◌, length, IfOk, IfSome, Some};
 ghost use Rattle.mip_history.specs.Outsiders.{asking_in, probe_packet, tell_of, tell_with, test_packet, update_packet};
 ghost use Rattle.mip_afresh_run.specs.Fitting.{CanForge};
 ghost use Rattle.mip_afresh_run.specs.Forged.{asking_seen, binding_seen, forged, told_seen};
 
 use crate::asking::{Asking, asking_in};
-use crate::binding::{Binding, bind_packet};
+use crate::binding::Binding;
 use crate::told::{Told, careof_told, test_in};
-use mip_afresh::Telling;
+use crate::updates::bind_packet;
+use mip_afresh::{PacketBytes, Telling};
 use mip_packets::{
     TestKind, write_careof_init, write_careof_test, write_home_init, write_home_test,
 };
@@ -50,8 +50,6 @@ fn update_packet(
     home: u32,
     careof: Option<u32>,
 ) -> Result<Option<Bytes>, Memory>
-    requires home { IsTrue (is_routable binding.now.ends.home.0) }
-    requires number { binding.now.number < 8 }
     ensures is { IfOk result (λ b. b ≡ update_packet (binding_seen binding.now) telling.now.run.posts home careof) }
     ensures long { IfOk result (λ b. IfSome b (λ p. 40 ≤ length p)) }
 {
@@ -66,13 +64,17 @@ fn update_packet(
 }
 
 /// The test that answers an init, from where that went to where it came from.
-fn answer_to(alloc: Global, init: &[u8], asking: Asking, told: Told) -> Result<Bytes, Memory>
-    requires { 40 ≤ length init.now }
-    ensures is { IfOk result (λ b. Some b ≡ tell_with init.now (asking_seen asking) (Some (told_seen told))) }
+fn answer_to(
+    alloc: Global,
+    init: PacketBytes<'_>,
+    asking: Asking,
+    told: Told,
+) -> Result<Bytes, Memory>
+    ensures is { IfOk result (λ b. Some b ≡ tell_with init.entry.bytes.now (asking_seen asking) (Some (told_seen told))) }
     ensures long { IfOk result (λ b. 40 ≤ length b) }
 {
-    let own = Address::at(init, DESTINATION);
-    let to = Address::at(init, SOURCE);
+    let own = Address::at(init.bytes, DESTINATION);
+    let to = Address::at(init.bytes, SOURCE);
     let cookie = asking.cookie;
     match asking.kind {
         TestKind::Home => write_home_test(alloc, own, to, told.index, cookie, told.token),
@@ -86,13 +88,12 @@ fn test_for(
     alloc: Global,
     telling: &Telling,
     test: u32,
-    init: &[u8],
+    init: PacketBytes<'_>,
 ) -> Result<Option<Bytes>, Memory>
-    requires { 40 ≤ length init.now }
-    ensures is { IfOk result (λ b. b ≡ tell_of telling.now.run.posts test init.now (asking_in init.now)) }
+    ensures is { IfOk result (λ b. b ≡ tell_of telling.now.run.posts test init.entry.bytes.now (asking_in init.entry.bytes.now)) }
     ensures long { IfOk result (λ b. IfSome b (λ p. 40 ≤ length p)) }
 {
-    let Some(asking) = asking_in(init) else {
+    let Some(asking) = asking_in(init.bytes) else {
         return Ok(None);
     };
     let Some(told) = test_in(telling, asking.kind, test) else {

@@ -11,9 +11,10 @@ ghost use Rattle.mip_afresh_run.specs.Fitting.{CanForge, IsFit};
 ghost use Rattle.mip_afresh_run.specs.Forged.{forged};
 
 use crate::forging::forged;
-use mip_afresh::Telling;
+use mip_afresh::{Outsider, PacketBytes, Telling};
 use mip_afresh_nodes::{
-    advertise, ask, carry, deliver, move_to, plan, refresh, restart, send, show, wait,
+    Payload, Routable, advertise, ask, carry, deliver, move_to, plan, refresh, restart, send, show,
+    wait,
 };
 use mip_entries::Entry;
 use mip_schedule::Event;
@@ -33,7 +34,10 @@ fn post(
     ensures { OnOk result (telling.new ≡ with_run (injected_if telling.old.setup telling.old.run outsider link.0 (forged telling.old.run.posts event.now)) telling.old) }
 {
     match forged(alloc, telling, event)? {
-        Some(packet) => telling.inject(alloc, outsider, link, packet.as_slice()),
+        Some(packet) => {
+            let bytes = packet.as_slice();
+            telling.inject(alloc, outsider, link, PacketBytes { bytes })
+        }
         None => telling.idle(),
     }
 }
@@ -60,25 +64,46 @@ pub(crate) fn happen(alloc: Global, telling: &mut Telling, event: &Event) -> Res
             to,
             proto,
             payload,
-        } => send(alloc, telling, *node, to.get(), *proto, payload.as_slice()),
+        } => {
+            let to = Routable { address: to.get() };
+            let payload = Payload {
+                proto: *proto,
+                bytes: payload.as_slice(),
+            };
+            send(alloc, telling, *node, to, &payload)
+        }
         Event::Inject {
             outsider,
             link,
             packet,
-        } => telling.inject(alloc, *outsider, *link, packet.as_slice()),
+        } => {
+            let bytes = packet.as_slice();
+            telling.inject(alloc, *outsider, *link, PacketBytes { bytes })
+        }
         Event::Probe { outsider, link, .. }
         | Event::Bind { outsider, link, .. }
         | Event::Tell { outsider, link, .. } => post(alloc, telling, *outsider, *link, event),
         Event::Listen { outsider, link } => telling.listen(*outsider, *link),
         Event::Deaf { outsider, link } => telling.deafen(*outsider, *link),
-        Event::Squat { outsider, address } => telling.squat(*outsider, address.get()),
-        Event::Yield { outsider, address } => telling.yield_up(*outsider, address.get()),
+        Event::Squat { outsider, address } => {
+            let outsider = Outsider { number: *outsider };
+            telling.squat(outsider, address.get())
+        }
+        Event::Yield { outsider, address } => {
+            let outsider = Outsider { number: *outsider };
+            telling.yield_up(outsider, address.get())
+        }
         Event::Deliver { number } => deliver(alloc, telling, u64::from(*number), false),
         Event::Repeat { number } => deliver(alloc, telling, u64::from(*number), true),
         Event::Lose { number } => telling.lose(u64::from(*number)),
         Event::Carry { count } => carry(alloc, telling, *count),
         Event::Restart { node } => restart(alloc, telling, *node),
-        Event::Refresh { node, home } => refresh(alloc, telling, *node, home.get()),
+        Event::Refresh { node, home } => {
+            let home = Routable {
+                address: home.get(),
+            };
+            refresh(alloc, telling, *node, home)
+        }
         Event::Plan {
             node,
             valid,

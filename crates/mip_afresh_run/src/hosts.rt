@@ -7,6 +7,7 @@ ghost use Rattle.mip_history.specs.Setup.{addresses_in, hosts_from, hosts_in, se
 ghost use Rattle.mip_afresh.specs.Tellings.{host_seen};
 ghost use Rattle.mip_afresh_run.specs.Hosts.{any_host};
 
+use crate::declared::Declared;
 use mip_afresh::{Host, Kind};
 use mip_schedule::Declaration;
 use mip_words::{Address, Memory, NodeId};
@@ -95,13 +96,11 @@ fn agent_of(addresses: &[Address], agent: Option<NodeId>) -> Option<Address>
 /// The node that is declared, counted as node `n`, if one is.
 fn host_in(
     alloc: Global,
-    all: &[Declaration],
-    addresses: &[Address],
+    declared: Declared<'_>,
     n: usize,
     d: &Declaration,
 ) -> Result<Option<Host>, Memory>
-    requires { addresses.now ≡ addresses_in all.now }
-    ensures { IfOk result (λ o. any_host (option_map host_seen o) ≡ hosts_from all.now n (d.now ∷ [])) }
+    ensures { IfOk result (λ o. any_host (option_map host_seen o) ≡ hosts_from declared.entry.all.now n (d.now ∷ [])) }
 {
     match d {
         Declaration::Correspondent { address, room, .. } => Ok(Some(Host {
@@ -119,7 +118,7 @@ fn host_in(
                 preference: *preference,
                 life: *life,
                 room: *room,
-                serves: served_by(alloc, addresses, n, all)?,
+                serves: served_by(alloc, declared.addresses, n, declared.all)?,
             };
             Ok(Some(Host {
                 address: *address,
@@ -129,7 +128,7 @@ fn host_in(
         Declaration::Mobile { address, agent, .. } => Ok(Some(Host {
             address: *address,
             kind: Kind::Mobile {
-                agent: agent_of(addresses, *agent),
+                agent: agent_of(declared.addresses, *agent),
             },
         })),
         _ => Ok(None),
@@ -140,14 +139,12 @@ fn host_in(
 fn add_host(
     alloc: Global,
     hosts: &mut Vec<Host>,
-    all: &[Declaration],
-    addresses: &[Address],
+    declared: Declared<'_>,
     d: &Declaration,
 ) -> Result<(), Memory>
-    requires { addresses.now ≡ addresses_in all.now }
-    ensures { OnOk result (map host_seen hosts.new.items ≡ map host_seen hosts.old.items ++ hosts_from all.now (length hosts.old.items) (d.now ∷ [])) }
+    ensures { OnOk result (map host_seen hosts.new.items ≡ map host_seen hosts.old.items ++ hosts_from declared.entry.all.now (length hosts.old.items) (d.now ∷ [])) }
 {
-    if let Some(host) = host_in(alloc, all, addresses, hosts.len(), d)? {
+    if let Some(host) = host_in(alloc, declared, hosts.len(), d)? {
         hosts.push(host)?;
     }
     Ok(())
@@ -159,9 +156,13 @@ pub(crate) fn hosts_in(alloc: Global, ds: &[Declaration]) -> Result<Vec<Host>, M
     ensures { IfOk result (λ v. map host_seen v.items ≡ hosts_in ds.now) }
 {
     let addresses = addresses_in(alloc, ds)?;
+    let declared = Declared {
+        all: ds,
+        addresses: addresses.as_slice(),
+    };
     let mut hosts = Vec::new(alloc);
     for d in ds {
-        add_host(alloc, &mut hosts, ds, &addresses, d)?;
+        add_host(alloc, &mut hosts, declared, d)?;
     }
     Ok(hosts)
 }

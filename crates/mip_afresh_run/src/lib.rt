@@ -4,6 +4,7 @@
 
 mod asking;
 mod binding;
+mod declared;
 mod fitting;
 mod forging;
 mod happening;
@@ -11,5 +12,6 @@ mod hosts;
 mod run;
 mod setting;
 mod told;
+mod updates;
 
 pub use run::Run;

@@ -1,14 +1,13 @@
 //! What a schedule declares, as its run needs it.
 
-ghost use Rattle.std.specs.Prelude.{◌≡◌, ◌≤◌, ◌∷◌, ◌++◌, [], length, map, IfOk, OnOk};
-ghost use Rattle.mip_symbols.specs.Places.{AreFew};
+ghost use Rattle.std.specs.Prelude.{◌≡◌, ◌∷◌, ◌++◌, [], map, IfOk, OnOk};
 ghost use Rattle.mip_schedule.specs.Schedules.{content};
 ghost use Rattle.mip_history.specs.Setup.{links_in, outsiders_in, setup_of};
 
 use crate::hosts::hosts_in;
 use mip_afresh::Setting;
 use mip_schedule::{Declaration, Schedule, few, numbers_of};
-use mip_symbols::{Sort, count};
+use mip_symbols::{FewDeclarations, Sort, count};
 use mip_words::{Memory, Prefix};
 use std::alloc::Global;
 
@@ -37,18 +36,16 @@ fn links_in(alloc: Global, ds: &[Declaration]) -> Result<Vec<Prefix>, Memory>
 
 /// How many outsiders there are.
 #[tactic(auto, using(crate::proofs::SettingLaws::outsiders_counted))]
-fn outsiders_in(ds: &[Declaration]) -> u8
-    requires { AreFew ds.now }
+fn outsiders_in(ds: &FewDeclarations<'_>) -> u8
     ensures { result ≡ outsiders_in ds.now }
 {
-    count(ds, Sort::Outsider) as u8
+    ds.few();
+    count(ds.as_slice(), Sort::Outsider) as u8
 }
 
 /// What a schedule declares: at most 32 links and 32 nodes.
 pub(crate) fn setting_of(alloc: Global, schedule: &Schedule) -> Result<Setting, Memory>
-    ensures is { IfOk result (λ s. s ≡ setup_of (content schedule.now)) }
-    ensures links { IfOk result (λ s. length s.links ≤ 32) }
-    ensures hosts { IfOk result (λ s. length s.hosts ≤ 32) }
+    ensures { IfOk result (λ s. s ≡ setup_of (content schedule.now)) }
 {
     few(schedule);
     let ds = schedule.declarations.as_slice();
@@ -57,7 +54,7 @@ pub(crate) fn setting_of(alloc: Global, schedule: &Schedule) -> Result<Setting, 
         start: schedule.start,
         links: links_in(alloc, ds)?,
         hosts: hosts_in(alloc, ds)?,
-        outsiders: outsiders_in(ds),
+        outsiders: outsiders_in(&schedule.few_declarations()),
         numbers: numbers_of(schedule.version),
     })
 }

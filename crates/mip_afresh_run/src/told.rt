@@ -35,7 +35,7 @@ pub(crate) fn test_in(telling: &Telling, kind: TestKind, number: u32) -> Option<
     ensures { option_map told_seen result ≡ test_in (kind_of kind) telling.now.run.posts number }
 {
     match telling.packet(u64::from(number)) {
-        Some(packet) => told_by(kind, packet),
+        Some(packet) => told_by(kind, packet.bytes),
         None => None,
     }
 }

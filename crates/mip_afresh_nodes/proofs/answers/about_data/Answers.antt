@@ -4,15 +4,14 @@ use Rattle.mip_rules_correspondent.specs.declared.identity.Identity.{Identity}
 use Rattle.mip_rules_correspondent.specs.Calls.{Send}
 use Rattle.mip_rules_correspondent.specs.Steps.{answers_of}
 use Rattle.mip_rules_correspondent.specs.Doing.{transition_of}
-use Rattle.mip_history.specs.Knowing.{now_in}
-use Rattle.mip_afresh_nodes.specs.Members.{known_to}
+use Rattle.mip_afresh_nodes.specs.Members.{identity_at, known_at, moment_at}
 use Rattle.mip_afresh_nodes.proofs.answers.about_data.Goals as goal
 
 pub returns : goal.returns
 returns c =
-    let t = c.args.telling.now in
-    let k = known_to t.setup t.run c.args.member in
-    let now = now_in t.setup t.run in
+    let v = c.args.standing.now in
+    let k = known_at v in
+    let now = moment_at v in
     IfOk-weaker c.send.result _ _
-    (λ a is. is ∙ ap (λ (me : Identity). answers_of (transition_of me k now (Send c.args.to c.args.proto c.args.payload.now)).steps) c.in_ok-me.ensures)
+    (λ a is. is ∙ ap (λ (me : Identity). answers_of (transition_of me k now (Send c.args.to.address c.args.payload.now.proto c.args.payload.now.bytes.now)).steps) (c.in_ok-me.ensures ∙ ap identity_at c.standing.view_is))
     (c.send.ensures now k c.in_ok-held.ensures)

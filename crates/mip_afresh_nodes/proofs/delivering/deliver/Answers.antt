@@ -1,18 +1,13 @@
 use Rattle.std.proofs.Common.{◌≡◌, subst}
 use Rattle.std.specs.Prelude.{OnOk}
 use Rattle.mip_afresh.specs.Tellings.{TellingSeen}
-use Rattle.mip_afresh_nodes.proofs.DeliveryLaws.{handed_run, handed_early, handed_whole, done_whole}
+use Rattle.mip_afresh_nodes.proofs.DeliveryLaws.{handed_run, handed_whole, done_whole}
 use Rattle.mip_afresh_nodes.proofs.delivering.deliver.Goals as goal
 
-pub take-requires-clause-run : goal.take-requires-clause-run
-take-requires-clause-run c =
+pub take-requires : goal.take-requires
+take-requires c =
     handed_run c.args.telling.now c.deliver.new.self c.args.number c.args.keep c.in_ok-arrival.arrival c.in_ok-arrival.ensures c.in-Handed.node c.in-Handed.shield c.in-Handed.packet c.in-Handed.is
-    c.requires.run
-
-pub take-requires-clause-early : goal.take-requires-clause-early
-take-requires-clause-early c =
-    handed_early c.args.telling.now c.deliver.new.self c.args.number c.args.keep c.in_ok-arrival.arrival c.in_ok-arrival.ensures c.in-Handed.node c.in-Handed.shield c.in-Handed.packet c.in-Handed.is
-    c.requires.run c.requires.early
+    c.requires
 
 pub returns-in-Done : goal.returns-in-Done
 returns-in-Done c = done_whole c.args.telling.now c.deliver.new.self c.args.number c.args.keep c.in_ok-arrival.arrival c.in_ok-arrival.ensures c.in-Done.is

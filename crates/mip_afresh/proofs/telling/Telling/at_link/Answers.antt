@@ -14,5 +14,5 @@ returns c =
     let q : Asked = asked_in c.args.self.now.setup past in
     let fresh : (not (c.args.link.0 == post.from.0) && nat_lt (hop_of post.packet) 2) ≡ false = sym c.is_spent.ensures ∙ c.if-is_spent.false in
     c.at_holder.ensures
-    ∙ ap (λ (o : Option ℕ). at_holder q post.shield o) (c.holder.ensures ∙ ap (holder_in past) (c.destination_in-destination.ensures ∙ ap destination_in c.as_slice.ensures))
+    ∙ ap (λ (o : Option ℕ). at_holder q post.shield o) (c.holder.ensures ∙ ap (holder_in past) (c.destination_in-destination.ensures ∙ ap destination_in c.bytes.ensures))
     ∙ sym (ap (λ (b : Bool). if b then table.Fate.Gone Hop else at_holder q post.shield (holder_in past (destination_in post.packet))) fresh)

@@ -1,11 +1,11 @@
-use Rattle.std.proofs.Common.{◌≡◌, List, sym, ap, ◌∙◌, subst}
-use Rattle.std.specs.Prelude.{map, slice_set, slice_index_or}
-use Rattle.mip_history.specs.Runs.{with_agent_past, with_mobile_past}
+use Rattle.std.proofs.Common.{List, sym, ap, ◌∙◌, subst}
+use Rattle.std.specs.Prelude.{slice_set}
+use Rattle.mip_history.specs.Runs.{with_mobile_past}
 use Rattle.mip_afresh.specs.contracts.telling.Telling.{the_view}
 use Rattle.mip_afresh.specs.declared.role.Role.{Role}
-use Rattle.mip_afresh.specs.declared.role.Role.TheVariants.{Plain, Agent, Mobile}
+use Rattle.mip_afresh.specs.declared.role.Role.TheVariants.{Mobile}
 use Rattle.mip_afresh.specs.Tellings.{TellingSeen, with_run}
-use Rattle.mip_afresh.specs.Roles.{agent_past, mobile_past, AreOf, IsMobile}
+use Rattle.mip_afresh.specs.Roles.{AreOf, IsMobile}
 use Rattle.mip_afresh.proofs.RoleLaws.{seen, put_mobile_back, set_of}
 use Rattle.mip_afresh.proofs.telling.Telling.put_mobile.Goals as goal
 
@@ -14,10 +14,8 @@ invariant_of-self c =
     let s = c.self.inside.setting in
     let roles = c.self.inside.roles.items in (
       c.self.invariant.0,
-      c.self.invariant.1,
-      c.self.invariant.2,
       subst (AreOf s) (sym (c.exchange-before.ensures.new ∙ ap (λ k. slice_set roles k (Mobile c.args.mobile)) c.from.ensures))
-          (set_of s roles c.args.node.0 (Mobile c.args.mobile) c.self.invariant.3 (subst (λ (t : TellingSeen). IsMobile t.setup c.args.node.0 c.args.mobile) (sym c.self.view_is) c.requires)),
+          (set_of s roles c.args.node.0 (Mobile c.args.mobile) c.self.invariant.1 (subst (λ (t : TellingSeen). IsMobile t.setup c.args.node.0 c.args.mobile) (sym c.self.view_is) c.requires)),
     )
 
 pub returns : goal.returns
@@ -27,5 +25,5 @@ returns c =
     let roles = c.self.inside.roles.items in
     let n = c.args.node.0 in
     ap (λ (l : List Role). seen s base l) (c.exchange-before.ensures.new ∙ ap (λ k. slice_set roles k (Mobile c.args.mobile)) c.from.ensures)
-    ∙ put_mobile_back s base roles n c.args.mobile c.self.invariant.3 (subst (λ (t : TellingSeen). IsMobile t.setup n c.args.mobile) (sym c.self.view_is) c.requires)
+    ∙ put_mobile_back s base roles n c.args.mobile c.self.invariant.1 (subst (λ (t : TellingSeen). IsMobile t.setup n c.args.mobile) (sym c.self.view_is) c.requires)
     ∙ ap (λ (t : TellingSeen). with_run (with_mobile_past n c.args.mobile.past t.run) t) c.self.view_is

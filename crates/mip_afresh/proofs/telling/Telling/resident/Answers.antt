@@ -1,4 +1,4 @@
-use Rattle.std.proofs.Common.{◌≡◌, ℕ, refl, sym, ap, ◌∙◌, subst, arith, ◌<◌, length}
+use Rattle.std.proofs.Common.{◌≡◌, refl, sym, ap, ◌∙◌, arith, length}
 use Rattle.mip_history.specs.Homes.{first_below, lives_at}
 use Rattle.mip_afresh.proofs.ResidentLaws.{none_more, first_of}
 use Rattle.mip_afresh.proofs.telling.Telling.resident.Goals as goal
