@@ -2,7 +2,6 @@
 
 ghost use Rattle.std.specs.Prelude.{◌≡◌, None};
 ghost use Rattle.mip_words.specs.Asked.{asked};
-ghost use Rattle.mip_rules_mobile.specs.RowQuestions.{lies_ahead};
 ghost use Rattle.mip_history.specs.Told.{present_says, present_in, registration_told, agent_in, binding_told, is_bound_in};
 
 use mip_entries::Entry;
@@ -140,19 +139,12 @@ pub fn binding(history: &[Entry], node: NodeId, peer: Address) -> Option<Moment>
     binding
 }
 
-/// A moment is ahead.
-fn lies_ahead(now: Moment, end: Option<Moment>) -> bool
-    ensures { result ≡ lies_ahead now.0 end }
-{
-    match end {
-        Some(end) => now.0 < end.0,
-        None => false,
-    }
-}
-
 /// A mobile has a binding with a peer at a moment.
 pub fn is_bound(history: &[Entry], now: Moment, node: NodeId, peer: Address) -> bool
     ensures { result ≡ is_bound_in now.0 history.now node.0 peer }
 {
-    lies_ahead(now, binding(history, node, peer))
+    match binding(history, node, peer) {
+        Some(end) => now.0 < end.0,
+        None => false,
+    }
 }
