@@ -1,12 +1,14 @@
 -- A packet that was read is checked by what the correspondent part keeps of what it asks.
 use Rattle.std.proofs.Common.{◌≡◌, ℕ, List, Bool, true, false, refl, sym, ap, subst, ◌∙◌, if◌then◌else◌}
-use Rattle.std.specs.Prelude.{Option, Some, None, Result, Ok}
+use Rattle.std.specs.Prelude.{Option, Some, None, Result, Ok, IsTrue}
 use Rattle.mip_words.specs.declared.address.Address.{Address}
 use Rattle.mip_words.specs.declared.why.Why.TheVariants as whys
 use Rattle.mip_ipv6.specs.declared.head.Head.{Head}
-use Rattle.mip_ipv6.specs.Packet.{Packet}
+use Rattle.mip_ipv6.specs.Packet.{Packet, is_routable_if_any}
+use Rattle.mip_ipv6.specs.Tunnel.{opened}
+use Rattle.mip_ipv6.proofs.Packets.{packet_takes}
+use Rattle.mip_ipv6.proofs.Placed.{home_routable}
 use Rattle.mip_mobhdr.specs.Said.{Said}
-use Rattle.mip_reception.specs.Says.{message_in}
 use Rattle.mip_reception.specs.declared.refusal.Refusal.{Refusal}
 use Rattle.mip_reception.specs.declared.address_match.AddressMatch.{AddressMatch}
 use Rattle.mip_reception.specs.Checks.{checked}
@@ -15,7 +17,7 @@ use Rattle.mip_rules_correspondent.specs.Rules.{holds_option, place_in}
 use Rattle.mip_rules_mobile.specs.ReceivingRules.{inner_standing}
 use Rattle.mip_rules_mobile.specs.Steps.{Drops}
 use Rattle.mip_rules_mobile.specs.Transitions.{Transition, noted}
-use Rattle.mip_rules_mobile.proofs.Checks.{checked-in}
+use Rattle.mip_rules_mobile.proofs.Checks.{opened-reads}
 use Rattle.mip_afresh_rules.specs.declared.kept.Kept.{Kept}
 use Rattle.mip_afresh_rules.specs.Keeping.{holds_home, IsKept}
 use Rattle.mip_afresh_mobile_state.specs.declared.turn.Turn.{Turn}
@@ -29,9 +31,9 @@ use Rattle.mip_afresh_mobile.specs.Nodes.{AreAccepted}
 use Rattle.mip_afresh_mobile.specs.Tunnels.{first_fault, unless_fault}
 use Rattle.mip_afresh_mobile.proofs.Turned.{shows-now}
 
--- what passes is the message of the packet
-pub checked_in : (standing : AddressMatch) (place : ℕ) (p : Packet) (m : Option Said) → checked standing place p ≡ Ok m → message_in p ≡ m
-checked_in standing place p m e = checked-in standing place p m e
+-- what comes out of a tunnel has a routable Home Address option, where one stands
+pub inner-plain : (agent : Address) (p q : Packet) → opened agent p ≡ Ok q → IsTrue (is_routable_if_any q.head.home)
+inner-plain agent p q opens = home_routable q p.body (packet_takes p.body q (opened-reads agent p q opens))
 
 holds-same : (k : parts.Known) (now : ℕ) (source : Address) (home : Option Address) → holds_option k now source home ≡ holds_home k.cache now source home
 holds-same k now source None = refl
