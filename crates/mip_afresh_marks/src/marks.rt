@@ -66,7 +66,10 @@ impl Numbered<'_> {
             key: *key,
             witness: None,
         };
-        let Some(pair) = self.sights.pair(accepted.careof_index, &signed, update, maker) else {
+        let Some(pair) = self
+            .sights
+            .pair(accepted.careof_index, &signed, update, maker)
+        else {
             return Mark::Forged(1);
         };
         let life = self.sights.life(accepted.node);

@@ -22,11 +22,10 @@ use Rattle.mip_afresh_rules.specs.declared.kept.Kept.{Kept}
 use Rattle.mip_afresh_rules.specs.Keeping.{holds_home, IsKept}
 use Rattle.mip_afresh_mobile_state.specs.declared.turn.Turn.{Turn}
 use Rattle.mip_afresh_mobile_state.specs.Turns.{Shows}
-use Rattle.mip_afresh_bindings.specs.declared.acceptance.Acceptance.{Acceptance}
 use Rattle.mip_bcache.specs.Seen.{CacheSeen}
-use Rattle.mip_words.specs.declared.shield.Shield.{Shield}
+use Rattle.mip_afresh_mobile.specs.declared.arrival.Arrival.{Arrival}
 use Rattle.mip_afresh_mobile.specs.declared.handed.Handed.{Handed}
-use Rattle.mip_afresh_mobile.specs.Asking.{kept_at}
+use Rattle.mip_afresh_mobile.specs.Asking.{handed_as}
 use Rattle.mip_afresh_mobile.specs.Nodes.{AreAccepted}
 use Rattle.mip_afresh_mobile.specs.Tunnels.{first_fault, unless_fault}
 use Rattle.mip_afresh_mobile.proofs.Turned.{shows-now}
@@ -72,8 +71,7 @@ fault-first false false false true number rest t = refl
 fault-first false false false false number rest t = refl
 
 -- what a packet was handed with is what the part keeps
-pub kept-here : (number : ℕ) (shield : Option Shield) (tunnelled : Bool) (numbers : ℕ) (accepted : List Acceptance) (now : ℕ) (head : Head) (handed : Handed) (cache : CacheSeen)
-    → handed ≡ record { number = number; shield = shield; tunnelled = tunnelled; kept = kept_at numbers accepted now head } → AreAccepted numbers now accepted cache
-    → IsKept handed.kept cache now head.source head.home
-kept-here number shield tunnelled numbers accepted now head handed cache is are =
+pub kept-here : (arrival : Arrival) (tunnelled : Bool) (now : ℕ) (head : Head) (handed : Handed) (cache : CacheSeen)
+    → handed ≡ handed_as arrival tunnelled now head → AreAccepted arrival.numbers now arrival.accepted.now cache → IsKept handed.kept cache now head.source head.home
+kept-here arrival tunnelled now head handed cache is are =
     subst (λ (k : Kept). IsKept k cache now head.source head.home) (sym (ap (λ (h : Handed). h.kept) is)) (are head.source head.home)

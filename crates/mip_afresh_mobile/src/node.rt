@@ -177,9 +177,7 @@ impl Node {
         let mut turn = begin(alloc, now, self.mobile.take())?;
         ask_refresh(alloc, &mut turn, home, held)?;
         let at = now;
-        let asked = Asked::Refresh {
-            home: home.address,
-        };
+        let asked = Asked::Refresh { home: home.address };
         self.past.add(&Called { at, asked });
         let Turn {
             mobile,

@@ -7,7 +7,7 @@ ghost use Rattle.mip_rules_mobile.specs.ReceivingRules.{after_checks, is_address
 ghost use Rattle.mip_rules_mobile.specs.Transitions.{Transition};
 ghost use Rattle.mip_rules_correspondent.specs.Rules.{holds_option};
 ghost use Rattle.mip_afresh_mobile_state.specs.Turns.{Shows};
-ghost use Rattle.mip_afresh_mobile.specs.Asking.{GoesFrom, kept_at};
+ghost use Rattle.mip_afresh_mobile.specs.Asking.{GoesFrom, handed_as};
 
 use crate::arrival::Arrival;
 use crate::handed::Handed;
@@ -66,7 +66,7 @@ fn take_passed(
     handed: &Handed,
     passed: &Passed<'_>,
 ) -> Result<(), Memory>
-    requires { handed.now ≡ record { number = arrival.now.number; shield = arrival.now.shield; tunnelled = false; kept = kept_at arrival.now.numbers arrival.now.accepted.now turn.old.now.0 passed.now.packet.head } }
+    requires { handed.now ≡ handed_as arrival.now false turn.old.now.0 passed.now.packet.head }
     ensures { (bytes : List ℕ) → GoesFrom arrival.now.numbers arrival.now.accepted.now result
         (after_checks arrival.now.number arrival.now.shield bytes (tree passed.now.packet) (Ok (option_map said passed.now.message))) turn.old turn.new }
 {

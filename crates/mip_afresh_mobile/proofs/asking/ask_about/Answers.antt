@@ -15,7 +15,7 @@ returns c = λ t kept shows.
     let call = parts.Part c.args.handed.now.number (tree c.args.passed.now.packet) in
     let known = t.known.part.known in
     let by : Moment → Type 0 = λ m. IsKept c.args.handed.now.kept known.cache m.0 head.source head.home
-        → c.in_ok-answers.answers ≡ part_steps.answers_of (transition_of c.identity.result.now known m.0 call).steps in
+    → c.in_ok-answers.answers ≡ part_steps.answers_of (transition_of c.identity.result.now known m.0 call).steps in
     c.pass_on.ensures call t
     (part-answered turn t c.identity.result.now call c.in_ok-answers.answers shows (c.identity.ensures t.known (shows-seen turn t shows))
     (subst by c.in_ok-at.ensures (c.in_ok-answers.ensures known) kept))

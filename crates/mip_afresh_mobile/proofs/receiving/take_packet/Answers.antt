@@ -18,7 +18,7 @@ returns-in-Ok c = λ t are shows.
     let p = tree received.packet in
     let kept = c.in_ok-handed.handed.kept in
     let m = option_map said c.in-Ok.message in
-    let is = kept-here arrival.number arrival.shield false arrival.numbers arrival.accepted.now turn.now.0 p.head c.in_ok-handed.handed t.known.part.known.cache c.in_ok-handed.ensures are in
+    let is = kept-here arrival false turn.now.0 p.head c.in_ok-handed.handed t.known.part.known.cache c.in_ok-handed.ensures are in
     let standing = c.standing_of.ensures t (kept-holds turn t kept p.head.source p.head.home is shows) shows in
     asked c.take_passed.result c.take_passed.new.turn (λ r. after_checks arrival.number arrival.shield bytes p r t) (Ok m) (checked (standing_of t.known t.now p.head) (place_in bytes p) p)
     (sym (checked-here (standing_of t.known t.now p.head) c.standing_of.result received.packet.place bytes p (Ok m) standing received.placed c.in-Ok.ensures.exact))
@@ -32,7 +32,7 @@ returns-in-Err c = λ t are shows.
     let bytes = received.bytes.now in
     let p = tree received.packet in
     let kept = c.in_ok-handed.handed.kept in
-    let is = kept-here arrival.number arrival.shield false arrival.numbers arrival.accepted.now turn.now.0 p.head c.in_ok-handed.handed t.known.part.known.cache c.in_ok-handed.ensures are in
+    let is = kept-here arrival false turn.now.0 p.head c.in_ok-handed.handed t.known.part.known.cache c.in_ok-handed.ensures are in
     let standing = c.standing_of.ensures t (kept-holds turn t kept p.head.source p.head.home is shows) shows in
     asked c.refuse.result c.refuse.new.turn (λ r. after_checks arrival.number arrival.shield bytes p r t) (Err c.in-Err.refusal) (checked (standing_of t.known t.now p.head) (place_in bytes p) p)
     (sym (checked-here (standing_of t.known t.now p.head) c.standing_of.result received.packet.place bytes p (Err c.in-Err.refusal) standing received.placed c.in-Err.ensures.exact))
