@@ -5,6 +5,7 @@ use Rattle.mip_words.specs.declared.address.Address.{Address}
 use Rattle.mip_words.specs.declared.why.Why.TheVariants as whys
 use Rattle.mip_ipv6.specs.declared.head.Head.{Head}
 use Rattle.mip_ipv6.specs.Packet.{Packet, is_routable_if_any}
+use Rattle.mip_ipv6.specs.Reading.{packet_of}
 use Rattle.mip_ipv6.specs.Tunnel.{opened}
 use Rattle.mip_ipv6.proofs.Packets.{packet_takes}
 use Rattle.mip_ipv6.proofs.Placed.{home_routable}
@@ -30,9 +31,12 @@ use Rattle.mip_afresh_mobile.specs.Nodes.{AreAccepted}
 use Rattle.mip_afresh_mobile.specs.Tunnels.{first_fault, unless_fault}
 use Rattle.mip_afresh_mobile.proofs.Turned.{shows-now}
 
--- what comes out of a tunnel has a routable Home Address option, where one stands
-pub inner-plain : (agent : Address) (p q : Packet) → opened agent p ≡ Ok q → IsTrue (is_routable_if_any q.head.home)
-inner-plain agent p q opens = home_routable q p.body (packet_takes p.body q (opened-reads agent p q opens))
+-- what comes out of a tunnel is what its bytes read as, and its Home Address option is routable, where one stands
+pub inner_reads : (agent : Address) (p q : Packet) → opened agent p ≡ Ok q → packet_of p.body ≡ Ok q
+inner_reads agent p q opens = opened-reads agent p q opens
+
+pub inner_plain : (agent : Address) (p q : Packet) → opened agent p ≡ Ok q → IsTrue (is_routable_if_any q.head.home)
+inner_plain agent p q opens = home_routable q p.body (packet_takes p.body q (opened-reads agent p q opens))
 
 holds-same : (k : parts.Known) (now : ℕ) (source : Address) (home : Option Address) → holds_option k now source home ≡ holds_home k.cache now source home
 holds-same k now source None = refl
