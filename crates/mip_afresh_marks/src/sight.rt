@@ -1,7 +1,7 @@
 ghost use Rattle.std.specs.Prelude.{◌≡◌, ℕ, List, Option, IfOk};
 ghost use Rattle.mip_packets.specs.Says.{carried};
 ghost use Rattle.mip_provenance.specs.Sights.{sight_with};
-ghost use Rattle.mip_provenance.specs.Sights.Sight as seen;
+ghost use Rattle.mip_provenance.specs.Sights.Sight.{Sent, Injected};
 ghost use Rattle.mip_afresh_marks.specs.Sighting.{sight_seen};
 
 use crate::said::Said;
@@ -51,7 +51,7 @@ pub enum Sight {
 
 /// A packet that a node sends, as a sight.
 fn sent(alloc: Global, number: u64, node: NodeId, packet: &[u8]) -> Result<Sight, Memory>
-    ensures { IfOk result (λ s. (token : ℕ → Option (List ℕ)) → sight_seen token s ≡ seen.Sent number node.0 (carried packet.now)) }
+    ensures { IfOk result (λ s. (token : ℕ → Option (List ℕ)) → sight_seen token s ≡ Sent number node.0 (carried packet.now)) }
 {
     let said = Said::by(alloc, packet)?;
     Ok(Sight::Sent { number, node, said })
@@ -59,7 +59,7 @@ fn sent(alloc: Global, number: u64, node: NodeId, packet: &[u8]) -> Result<Sight
 
 /// One that an outsider injects.
 fn injected(alloc: Global, number: u64, outsider: u8, packet: &[u8]) -> Result<Sight, Memory>
-    ensures { IfOk result (λ s. (token : ℕ → Option (List ℕ)) → sight_seen token s ≡ seen.Injected number outsider (carried packet.now)) }
+    ensures { IfOk result (λ s. (token : ℕ → Option (List ℕ)) → sight_seen token s ≡ Injected number outsider (carried packet.now)) }
 {
     let said = Said::by(alloc, packet)?;
     Ok(Sight::Injected {
