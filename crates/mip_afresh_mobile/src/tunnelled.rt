@@ -118,7 +118,6 @@ fn exit_why(fault: ExitFault) -> Why
 }
 
 /// A tunnel packet is opened, where it comes from this agent.
-#[tactic(auto, using(crate::proofs::Received::inner_reads, crate::proofs::Received::inner_plain))]
 fn open_at(
     alloc: Global,
     turn: &mut Turn,
