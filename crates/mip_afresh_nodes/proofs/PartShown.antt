@@ -1,8 +1,6 @@
 -- What the correspondent part of a mobile shows.
-use Rattle.std.proofs.Common.{◌≡◌, ℕ, ◌<◌, ◌^◌, List, true, refl, sym, ap, ◌∙◌, subst}
+use Rattle.std.proofs.Common.{◌≡◌, ℕ, List, true, refl, sym, ap, ◌∙◌}
 use Rattle.std.specs.Prelude.{Option, Some, None, map, slice_get}
-use Rattle.std.specs.List.{All}
-use Rattle.std.proofs.lemmas.List.Elements.{All-from_recursion}
 use Rattle.mip_words.specs.declared.address.Address.{Address}
 use Rattle.mip_words.specs.declared.ids.NodeId.{NodeId}
 use Rattle.mip_binding.specs.Acceptance.{Acceptance}
@@ -22,10 +20,8 @@ use Rattle.mip_history.specs.KnowingLaws.{part_in}
 use Rattle.mip_history.specs.Nodes.{rows_shown, shown}
 use Rattle.mip_history.specs.Bound.{accepted_by}
 use Rattle.mip_history.proofs.ShownRows.{past_rows}
-use Rattle.mip_afresh_bindings.specs.declared.acceptance.Acceptance as found
-use Rattle.mip_afresh_bindings.specs.Accepted.{acceptance_seen, IsEarly}
 use Rattle.mip_afresh_nodes.specs.Rows.{entry_of}
-use Rattle.mip_afresh_nodes.proofs.ShowingLaws.{ByThen, accepted_by_then, early_seen, entries_seen}
+use Rattle.mip_afresh_nodes.proofs.ShowingLaws.{entries_seen}
 
 -- a mobile, as it is declared
 record IsDeclared (s : Setup) (n : ℕ) : Type 0 where
@@ -51,12 +47,6 @@ module _ (s : Setup) (run : Run) (n : ℕ) (mobile : is_mobile_at s n ≡ true) 
 
   lived : IsPast s run.past (part_in s run n d.home).past n
   lived = let part = r.parts n d.home d.agent d.host in part.past
-
-  pub part_early : now_in s run < 2 ^ 62 → (xs : List found.Acceptance) → map acceptance_seen xs ≡ accepted_by s.start run.past n → All IsEarly xs
-  part_early early xs took =
-      let p = lived in
-      All-from_recursion IsEarly xs
-      (early_seen (now_in s run) xs early (subst (ByThen (now_in s run)) (p.accepted ∙ sym took) (accepted_by_then (now_in s run) (part_in s run n d.home).past p.early)))
 
 pub part_shown : (s : Setup) (run : Run) (node : NodeId) (mobile : is_mobile_at s node.0 ≡ true) (r : IsRun s run) (xs : List Acceptance) (now : ℕ) → now ≡ now_in s run → xs ≡ accepted_by s.start run.past node.0
     → (rows : List BindingRow) → rows ≡ shown_rows xs now → (es : List Entry) → es ≡ map (entry_of node) rows → notes es run ≡ shown s node.0 run

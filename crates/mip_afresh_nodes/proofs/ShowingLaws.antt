@@ -1,8 +1,6 @@
 -- The rows by what a correspondent accepted are those of its cache.
-use Rattle.std.proofs.Common.{◌≡◌, ℕ, ◌<◌, ◌≤◌, ◌^◌, List, [], ◌∷◌, ◌++◌, refl, sym, ap, ◌∙◌, subst, arith}
+use Rattle.std.proofs.Common.{◌≡◌, ℕ, List, [], ◌∷◌, refl, sym, ap, ◌∙◌}
 use Rattle.std.specs.Prelude.{map}
-use Rattle.std.specs.List.{All, AllByRecursion}
-use Rattle.std.proofs.lemmas.List.Elements.{All-from_recursion}
 use Rattle.mip_words.specs.declared.ids.NodeId.{NodeId}
 use Rattle.mip_binding.specs.Acceptance.{Acceptance}
 use Rattle.mip_binding.specs.Rows.{BindingRow}
@@ -10,9 +8,6 @@ use Rattle.mip_binding.specs.Homes.{shown_rows}
 use Rattle.mip_bcache.specs.declared.row.Row.{Row}
 use Rattle.mip_bcache.specs.Seen.{seen_row, rows_at}
 use Rattle.mip_entries.specs.declared.entry.Entry.{Entry}
-use Rattle.mip_entries.specs.Stamped.{Stamped}
-use Rattle.mip_rules_correspondent.specs.Steps.{Step, Called, Sends, Accepts, Denies, Drops, HandsUp, Idles}
-use Rattle.mip_rules_correspondent.specs.Pasts.{acceptance_in, accepted_in}
 use Rattle.mip_history.specs.Setup.{Setup}
 use Rattle.mip_history.specs.SetupLaws.{is_correspondent_host}
 use Rattle.mip_history.specs.Runs.{Run, notes, past_at}
@@ -21,41 +16,9 @@ use Rattle.mip_history.specs.Knowing.{now_in}
 use Rattle.mip_history.specs.Nodes.{row_entry, rows_shown, shown}
 use Rattle.mip_history.specs.Bound.{accepted_by}
 use Rattle.mip_history.proofs.ShownRows.{past_rows}
-use Rattle.mip_afresh_bindings.specs.declared.acceptance.Acceptance as found
-use Rattle.mip_afresh_bindings.specs.Accepted.{acceptance_seen, IsEarly}
 use Rattle.mip_afresh_nodes.specs.declared.member.Member.{Member}
 use Rattle.mip_afresh_nodes.specs.Members.{IsMember, known_to}
 use Rattle.mip_afresh_nodes.specs.Rows.{entry_of}
-
--- what was accepted by a moment came by then
-abbrev pub ByThen : ℕ → List Acceptance → Type 0
-ByThen now xs = AllByRecursion (λ a. a.at ≤ now) xs
-
-pub accepted_by_then : (now : ℕ) (past : List (Stamped Step)) → AllByRecursion (λ s. s.at ≤ now) past → ByThen now (accepted_in past)
-unfolding accepted_in
-accepted_by_then now [] all = tt
-accepted_by_then now (s ∷ past) all = by s.step (accepted_by_then now past all.1)
-  where
-    by : (step : Step) → ByThen now (accepted_in past) → ByThen now (acceptance_in s.at step ++ accepted_in past)
-    by (Accepts number home binding accepted) more = (all.0, more)
-    by (Called call) more = more
-    by (Sends packet) more = more
-    by (Denies number status) more = more
-    by (Drops number why) more = more
-    by (HandsUp number source destination proto payload) more = more
-    by Idles more = more
-
-pub early_seen : (now : ℕ) (xs : List found.Acceptance) → now < 2 ^ 62 → ByThen now (map acceptance_seen xs) → AllByRecursion IsEarly xs
-early_seen now [] early all = tt
-early_seen now (x ∷ xs) early all = (let at = all.0 in omega (arith, early, at), early_seen now xs early all.1)
-
--- so it is of what a correspondent accepted in any run
-pub member_early : (s : Setup) (run : Run) (m : Member) (xs : List found.Acceptance) → IsRun s run → IsMember s m → now_in s run < 2 ^ 62
-    → map acceptance_seen xs ≡ accepted_by s.start run.past m.node.0 → All IsEarly xs
-member_early s run m xs is host early took =
-    let p = is.pasts m.node.0 (ap is_correspondent_host host) in
-    All-from_recursion IsEarly xs
-    (early_seen (now_in s run) xs early (subst (ByThen (now_in s run)) (p.accepted ∙ sym took) (accepted_by_then (now_in s run) (past_at run m.node.0) p.early)))
 
 -- the entry of a row is that of what it shows
 pub entries_seen : (node : NodeId) (rows : List Row) → map (row_entry node.0) rows ≡ map (entry_of node) (map seen_row rows)

@@ -12,7 +12,6 @@ ghost use Rattle.mip_afresh_nodes.specs.AgentCalls.{asked_of_agent, call_of_agen
 
 use crate::agent_call::AgentCall;
 use crate::claims::claim_by_agent;
-use crate::early::early;
 use mip_afresh::Telling;
 use mip_afresh_agent::Agent;
 use mip_entries::Answers;
@@ -47,7 +46,7 @@ fn agent_answers(
     ensures answers { IfOk result (λ a. a ≡ answers_of (transition_at agent.old (now_in telling.now.setup telling.now.run) (call_of_agent (around_in telling.now.run node.0 None) call.now)).steps) }
     ensures goes_on { OnOk result (agent.new ≡ after_call agent.old (now_in telling.now.setup telling.now.run) (call_of_agent (around_in telling.now.run node.0 None) call.now)) }
 {
-    let now = early(telling.now())?;
+    let now = telling.now();
     match call {
         AgentCall::Take {
             number,

@@ -5,12 +5,10 @@ ghost use Rattle.mip_words.specs.declared.shield.Shield.{Shield};
 ghost use Rattle.mip_rules_correspondent.specs.Calls as asked_for;
 ghost use Rattle.mip_afresh_nodes.specs.Members.{AreAnswersAt};
 
-use crate::early::early;
 use crate::keeping::{held_for, kept_for};
 use crate::member::identity;
-use crate::payload::Payload;
-use crate::routable::Routable;
 use crate::standing::Standing;
+use mip_afresh_rules::{Early, Payload, Routable};
 use mip_entries::Answers;
 use mip_words::Memory;
 use std::alloc::Global;
@@ -26,7 +24,7 @@ pub(crate) fn about_packet(
 {
     let telling = standing.telling;
     let me = identity(telling, standing.member)?;
-    let now = early(telling.now())?;
+    let now = Early::new(telling.now())?;
     let kept = kept_for(alloc, standing, packet)?;
     mip_afresh_rules::take(alloc, &me, now, number, kept, packet)
 }
@@ -42,7 +40,7 @@ pub(crate) fn about_data(
 {
     let me = identity(standing.telling, standing.member)?;
     let held = held_for(alloc, standing, to.address)?;
-    mip_afresh_rules::send(alloc, &me, to.address, payload.proto, payload.bytes, held)
+    mip_afresh_rules::send(alloc, &me, to, payload, held)
 }
 
 /// What a correspondent does about a refresh that it is asked for.
@@ -55,5 +53,5 @@ pub(crate) fn about_refresh(
 {
     let me = identity(standing.telling, standing.member)?;
     let held = held_for(alloc, standing, home.address)?;
-    mip_afresh_rules::refresh(alloc, &me, home.address, held)
+    mip_afresh_rules::refresh(alloc, &me, home, held)
 }

@@ -15,10 +15,9 @@ use crate::idling::{idle_agent, idle_mobile, idle_plain};
 use crate::member::{Member, member_of};
 use crate::mobile_call::MobileCall;
 use crate::mobiles::{ask_mobile, hand_to_mobile, refresh_by_mobile, send_by_mobile};
-use crate::payload::Payload;
-use crate::routable::Routable;
 use crate::standing::Standing;
 use mip_afresh::{Asked, Role, Telling};
+use mip_afresh_rules::{Payload, Routable};
 use mip_words::{Bytes, Memory, NodeId, Shield};
 use std::alloc::Global;
 

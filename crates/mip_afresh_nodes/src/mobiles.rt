@@ -17,14 +17,12 @@ ghost use Rattle.mip_afresh_bindings.specs.Homes.{address_seen};
 ghost use Rattle.mip_afresh_nodes.specs.MobileCalls.{asked_of_mobile, call_of_mobile};
 
 use crate::claims::claim_by_mobile;
-use crate::early::early;
 use crate::keeping::accepted;
 use crate::mobile_call::MobileCall;
-use crate::payload::Payload;
-use crate::routable::Routable;
 use mip_afresh::Telling;
 use mip_afresh_bindings::held;
 use mip_afresh_mobile::Node;
+use mip_afresh_rules::{Payload, Routable};
 use mip_entries::Answers;
 use mip_words::{Address, LinkId, Memory, NodeId, Prefix, Shield};
 use std::alloc::Global;
@@ -92,8 +90,7 @@ pub(crate) fn hand_to_mobile(
 {
     let own = mobile.home();
     let accepted = accepted(alloc, telling, node)?;
-    let now = early(telling.now())?;
-    let answers = mobile.take(alloc, now, number, shield, packet, &accepted)?;
+    let answers = mobile.take(alloc, telling.now(), number, shield, packet, &accepted)?;
     answer_mobile(alloc, telling, node, own, mobile, answers)
 }
 
@@ -112,14 +109,7 @@ pub(crate) fn send_by_mobile(
 {
     let own = mobile.home();
     let held = held_by(alloc, telling, node, to.address)?;
-    let answers = mobile.send(
-        alloc,
-        telling.now(),
-        to.address,
-        payload.proto,
-        payload.bytes,
-        held,
-    )?;
+    let answers = mobile.send(alloc, telling.now(), to, payload, held)?;
     answer_mobile(alloc, telling, node, own, mobile, answers)
 }
 
@@ -137,7 +127,7 @@ pub(crate) fn refresh_by_mobile(
 {
     let own = mobile.home();
     let held = held_by(alloc, telling, node, home.address)?;
-    let answers = mobile.refresh(alloc, telling.now(), home.address, held)?;
+    let answers = mobile.refresh(alloc, telling.now(), home, held)?;
     answer_mobile(alloc, telling, node, own, mobile, answers)
 }
 

@@ -10,7 +10,6 @@ ghost use Rattle.mip_afresh_bindings.specs.Showing.{row_seen};
 ghost use Rattle.mip_afresh.specs.Roles.{IsAgentOf};
 ghost use Rattle.mip_afresh_nodes.specs.Rows.{entry_of, AreShown};
 
-use crate::early::early;
 use crate::keeping::accepted;
 use crate::member::member_of;
 use crate::standing::Standing;
@@ -55,8 +54,7 @@ fn shown_by(alloc: Global, standing: &Standing<'_>) -> Result<Vec<Entry>, Memory
     let telling = standing.telling;
     let member = standing.member;
     let accepted = accepted(alloc, telling, member.node)?;
-    let now = early(telling.now())?;
-    let rows = shown_rows(alloc, &accepted, now)?;
+    let rows = shown_rows(alloc, &accepted, telling.now())?;
     entries_of(alloc, member.node, &rows)
 }
 
@@ -107,8 +105,7 @@ fn shown_by_mobile(alloc: Global, telling: &Telling, node: NodeId) -> Result<Vec
     ensures { IfOk result (λ v. notes v.items telling.now.run ≡ shown telling.now.setup node.0 telling.now.run) }
 {
     let accepted = accepted(alloc, telling, node)?;
-    let now = early(telling.now())?;
-    let rows = shown_rows(alloc, &accepted, now)?;
+    let rows = shown_rows(alloc, &accepted, telling.now())?;
     entries_of(alloc, node, &rows)
 }
 

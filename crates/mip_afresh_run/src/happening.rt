@@ -13,9 +13,9 @@ ghost use Rattle.mip_afresh_run.specs.Forged.{forged};
 use crate::forging::forged;
 use mip_afresh::{Outsider, PacketBytes, Telling};
 use mip_afresh_nodes::{
-    Payload, Routable, advertise, ask, carry, deliver, move_to, plan, refresh, restart, send, show,
-    wait,
+    advertise, ask, carry, deliver, move_to, plan, refresh, restart, send, show, wait,
 };
+use mip_afresh_rules::{Payload, Routable};
 use mip_entries::Entry;
 use mip_schedule::Event;
 use mip_settled::settled;

@@ -1,7 +1,6 @@
 use Rattle.std.proofs.Common.{◌≡◌, map, refl, ap, ◌∙◌, subst}
 use Rattle.std.specs.Prelude.{OnOk, unwrap_or}
 use Rattle.mip_words.specs.declared.address.Address.{Address}
-use Rattle.mip_words.specs.declared.moment.Moment.{Moment}
 use Rattle.mip_rules_mobile.specs.Calls as mobiles
 use Rattle.mip_history.specs.Calls as asked_for
 use Rattle.mip_history.specs.Runs.{Run, with_mobile_past}
@@ -16,7 +15,7 @@ use Rattle.mip_afresh_nodes.proofs.mobiles.hand_to_mobile.Goals as goal
 pub take-requires-clause-accepted : goal.take-requires-clause-accepted
 take-requires-clause-accepted c =
     let t = c.args.telling.now in
-    part_accepted t.setup t.run c.args.node.0 c.args.mobile c.requires.out.is c.requires.out.inside c.requires.run c.in_ok-now.now.0 (ap (λ (k : Moment). k.0) c.in_ok-now.ensures.0 ∙ c.now.ensures) c.deref.result.now
+    part_accepted t.setup t.run c.args.node.0 c.args.mobile c.requires.out.is c.requires.out.inside c.requires.run c.now.result.0 c.now.ensures c.deref.result.now
     (ap (map acceptance_seen) c.deref.ensures.value ∙ c.in_ok-accepted.ensures)
 
 pub returns : goal.returns
@@ -25,6 +24,6 @@ returns c =
     let m = c.args.mobile in
     subst (λ (run : Run). OnOk c.answer_mobile.result (c.answer_mobile.new.telling ≡ with_run run t))
     (ap (λ (o : Address). answered t.setup c.args.node.0 (unwrap_or (stands_on t.setup t.run c.args.node.0 o) 0) (with_mobile_past c.args.node.0 c.take.new.self.past t.run) c.in_ok-answers.answers) c.home-own.ensures
-    ∙ mobile_done t.setup t.run c.args.node.0 m c.requires.out.is c.requires.out.inside (asked_for.Take c.args.number c.args.shield c.args.packet.now) (mobiles.Take c.args.number c.args.shield c.args.packet.now) c.in_ok-now.now.0 c.take.new.self c.in_ok-answers.answers refl
-    (ap (λ (k : Moment). k.0) c.in_ok-now.ensures.0 ∙ c.now.ensures) c.in_ok-answers.ensures.goes_on c.in_ok-answers.ensures.answers)
+    ∙ mobile_done t.setup t.run c.args.node.0 m c.requires.out.is c.requires.out.inside (asked_for.Take c.args.number c.args.shield c.args.packet.now) (mobiles.Take c.args.number c.args.shield c.args.packet.now) c.now.result.0 c.take.new.self c.in_ok-answers.answers refl
+    c.now.ensures c.in_ok-answers.ensures.goes_on c.in_ok-answers.ensures.answers)
     c.answer_mobile.ensures

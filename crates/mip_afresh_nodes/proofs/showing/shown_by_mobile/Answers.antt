@@ -1,22 +1,14 @@
-use Rattle.std.proofs.Common.{ℕ, ◌<◌, ◌^◌, map, ap, subst, ◌∙◌}
+use Rattle.std.proofs.Common.{map, ap, ◌∙◌}
 use Rattle.std.proofs.lemmas.Result.{IfOk-weaker}
-use Rattle.mip_words.specs.declared.moment.Moment.{Moment}
 use Rattle.mip_afresh_bindings.specs.Accepted.{acceptance_seen}
 use Rattle.mip_afresh_bindings.specs.Showing.{row_seen}
-use Rattle.mip_afresh_nodes.proofs.PartShown.{part_early, part_shown}
+use Rattle.mip_afresh_nodes.proofs.PartShown.{part_shown}
 use Rattle.mip_afresh_nodes.proofs.showing.shown_by_mobile.Goals as goal
-
-pub shown_rows-requires : goal.shown_rows-requires
-shown_rows-requires c =
-    let t = c.args.telling.now in
-    part_early t.setup t.run c.args.node.0 c.requires.mobile c.requires.run
-    (subst (λ (k : ℕ). k < 2 ^ 62) (ap (λ (k : Moment). k.0) c.in_ok-now.ensures.0 ∙ c.now.ensures) c.in_ok-now.ensures.1)
-    c.deref.result.now (ap (map acceptance_seen) c.deref.ensures.value ∙ c.in_ok-accepted.ensures)
 
 pub returns : goal.returns
 returns c =
     let t = c.args.telling.now in
     IfOk-weaker c.entries_of.result _ _
-    (λ v is. part_shown t.setup t.run c.args.node c.requires.mobile c.requires.run (map acceptance_seen c.deref.result.now) c.in_ok-now.now.0 (ap (λ (k : Moment). k.0) c.in_ok-now.ensures.0 ∙ c.now.ensures)
+    (λ v is. part_shown t.setup t.run c.args.node c.requires.mobile c.requires.run (map acceptance_seen c.deref.result.now) c.now.result.0 c.now.ensures
     (ap (map acceptance_seen) c.deref.ensures.value ∙ c.in_ok-accepted.ensures) (map row_seen c.deref-2.result.now) (ap (map row_seen) c.deref-2.ensures.value ∙ c.in_ok-rows.ensures) v.items is)
     c.entries_of.ensures
