@@ -1,4 +1,4 @@
-ghost use Rattle.std.specs.Prelude.{◌≡◌, ◌<◌, ◌^◌, [], IfOk, OnOk, option_map, slice_get};
+ghost use Rattle.std.specs.Prelude.{◌≡◌, [], IfOk, OnOk, option_map, slice_get};
 ghost use Rattle.mip_rules_agent.specs.Calls as calls;
 ghost use Rattle.mip_rules_agent.specs.Steps.{answers_of};
 ghost use Rattle.mip_rules_agent.specs.Questions.{rows_at};
@@ -76,7 +76,6 @@ impl Agent {
         packet: &[u8],
         claim: Claim,
     ) -> Result<Answers, Memory>
-        requires { now.0 < 2 ^ 62 }
         ensures answers { IfOk result (λ a. a ≡ answers_of (transition_at self.old now.0 (calls.Take number shield packet.now claim)).steps) }
         ensures goes_on { OnOk result (self.new ≡ after_call self.old now.0 (calls.Take number shield packet.now claim)) }
     {
@@ -101,7 +100,6 @@ impl Agent {
 
     /// Time goes on.
     pub fn tick(&mut self, alloc: Global, now: Moment) -> Result<Answers, Memory>
-        requires { now.0 < 2 ^ 62 }
         ensures answers { IfOk result (λ a. a ≡ answers_of (transition_at self.old now.0 calls.Tick).steps) }
         ensures goes_on { OnOk result (self.new ≡ after_call self.old now.0 calls.Tick) }
     {
@@ -119,7 +117,6 @@ impl Agent {
         valid: u32,
         preferred: u32,
     ) -> Result<Answers, Memory>
-        requires { now.0 < 2 ^ 62 }
         ensures answers { IfOk result (λ a. a ≡ answers_of (transition_at self.old now.0 (calls.Plan valid preferred)).steps) }
         ensures goes_on { OnOk result (self.new ≡ after_call self.old now.0 (calls.Plan valid preferred)) }
     {
@@ -138,7 +135,6 @@ impl Agent {
         preference: u16,
         life: u16,
     ) -> Result<Answers, Memory>
-        requires { now.0 < 2 ^ 62 }
         ensures answers { IfOk result (λ a. a ≡ answers_of (transition_at self.old now.0 (calls.Hear agent preference life)).steps) }
         ensures goes_on { OnOk result (self.new ≡ after_call self.old now.0 (calls.Hear agent preference life)) }
     {

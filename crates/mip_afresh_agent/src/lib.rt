@@ -10,6 +10,7 @@ mod discovery;
 mod ends;
 mod handed;
 mod homes;
+mod incoming;
 mod listing;
 mod prefixes;
 mod question;

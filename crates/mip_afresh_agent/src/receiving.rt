@@ -1,6 +1,6 @@
 //! What a home agent does about a packet (RFC 6275 section 10).
 
-ghost use Rattle.std.specs.Prelude.{◌≡◌, ◌<◌, ◌-◌, ◌^◌, ◌&&◌, ◌==◌, Some, option_map};
+ghost use Rattle.std.specs.Prelude.{◌≡◌, ◌&&◌, ◌==◌, Some, option_map};
 ghost use Rattle.mip_words.specs.Protocols.{ipv6};
 ghost use Rattle.mip_ipv6.specs.Packet.{packet as tree};
 ghost use Rattle.mip_ipv6.specs.Reading.{packet_of};
@@ -11,13 +11,14 @@ ghost use Rattle.mip_rules_agent.specs.Rules.{by_proto, by_role, anycast_of, hol
 ghost use Rattle.mip_afresh_agent.specs.Turns.{Goes, handing_in};
 
 use crate::handed::Handed;
+use crate::incoming::Incoming;
 use crate::prefixes::take_icmp;
 use crate::refusing::refuse;
 use crate::state::State;
 use crate::tunnels::{intercept, take_tunnel};
 use crate::turn::Turn;
 use crate::update::take_update;
-use mip_afresh_rules::{asked_by, check, packet_why};
+use mip_afresh_rules::{Received, asked_by, check, packet_why};
 use mip_ipv6::{Head, PacketRef, read_packet};
 use mip_mobhdr::Message;
 use mip_reception::AddressMatch;
@@ -114,41 +115,35 @@ fn standing_of(me: &Identity, known: &State, now: Moment, head: &Head) -> Addres
 }
 
 /// A packet that no tunnel catches is checked, and answered.
-fn take_own(
-    alloc: Global,
-    turn: &mut Turn,
-    handed: &Handed<'_>,
-    packet: &PacketRef<'_>,
-) -> Result<(), Memory>
-    requires placed { packet.now.place ≡ place_in handed.now.bytes.now (tree packet.now) }
-    requires near { packet.now.place < 2 ^ 32 - 1 }
-    ensures { Goes result (after_checks (handing_in handed.now turn.old) (tree packet.now)
-        (checked (standing_of handed.now.me.now turn.old.known turn.old.moment.0 packet.now.head) (place_in handed.now.bytes.now (tree packet.now)) (tree packet.now)))
+fn take_own(alloc: Global, turn: &mut Turn, incoming: &Incoming<'_>) -> Result<(), Memory>
+    ensures { Goes result (after_checks (handing_in incoming.now.handed turn.old) (tree incoming.now.packet)
+        (checked (standing_of incoming.now.handed.me.now turn.old.known turn.old.moment.0 incoming.now.packet.head)
+        (place_in incoming.now.handed.bytes.now (tree incoming.now.packet)) (tree incoming.now.packet)))
         turn.old turn.new }
 {
+    let handed = &incoming.handed;
+    let packet = &incoming.packet;
     let standing = standing_of(handed.me, &turn.known, turn.moment, &packet.head);
-    match check(packet, standing) {
+    let received = Received {
+        bytes: handed.bytes,
+        packet: *packet,
+    };
+    match check(&received, standing) {
         Ok(message) => take_role(alloc, turn, handed, packet, &message),
         Err(refusal) => refuse(alloc, turn, handed, packet.head.source, refusal),
     }
 }
 
 /// What is sent to a registered home is caught before all checks.
-fn take_packet(
-    alloc: Global,
-    turn: &mut Turn,
-    handed: &Handed<'_>,
-    packet: &PacketRef<'_>,
-) -> Result<(), Memory>
-    requires placed { packet.now.place ≡ place_in handed.now.bytes.now (tree packet.now) }
-    requires near { packet.now.place < 2 ^ 32 - 1 }
-    ensures { Goes result (by_destination (handing_in handed.now turn.old) (tree packet.now)
-        (careof_at turn.old.known turn.old.moment.0 packet.now.head.destination)) turn.old turn.new }
+fn take_packet(alloc: Global, turn: &mut Turn, incoming: &Incoming<'_>) -> Result<(), Memory>
+    ensures { Goes result (by_destination (handing_in incoming.now.handed turn.old) (tree incoming.now.packet)
+        (careof_at turn.old.known turn.old.moment.0 incoming.now.packet.head.destination)) turn.old turn.new }
 {
-    let home = packet.head.destination;
+    let head = incoming.packet.head;
+    let home = head.destination;
     match turn.known.careof_at(turn.moment, home) {
-        Some(careof) => intercept(alloc, turn, handed, home, careof, packet.head.proto),
-        None => take_own(alloc, turn, handed, packet),
+        Some(careof) => intercept(alloc, turn, &incoming.handed, home, careof, head.proto),
+        None => take_own(alloc, turn, incoming),
     }
 }
 
@@ -157,7 +152,10 @@ pub fn receive(alloc: Global, turn: &mut Turn, handed: &Handed<'_>) -> Result<()
     ensures { Goes result (receives (handing_in handed.now turn.old) (packet_of handed.now.bytes.now)) turn.old turn.new }
 {
     match read_packet(handed.bytes) {
-        Ok(packet) => take_packet(alloc, turn, handed, &packet),
+        Ok(packet) => {
+            let handed = *handed;
+            take_packet(alloc, turn, &Incoming { handed, packet })
+        }
         Err(fault) => turn.drop_packet(handed.number, packet_why(fault)),
     }
 }

@@ -1,7 +1,6 @@
 //! The verdict on a home registration, a row a function, last row first (RFC 6275 sections 10.3.1 and 10.3.2).
 
 ghost use Rattle.std.specs.Prelude.{◌≡◌, Some};
-ghost use Rattle.mip_outside.specs.Places.{is_held};
 ghost use Rattle.mip_rules_agent.specs.Verdicts.{is_from, is_near, granted_of, accepted, by_room, by_sequence, is_away, before_claim, by_claim, verdict};
 
 use mip_afresh_rules::{careof_of, deletes, home_of, registered_of};
@@ -119,27 +118,16 @@ fn before_claim(bench: &Bench, shield: Option<Shield>, asked: &Registration) -> 
     }
 }
 
-/// Nobody else holds the address.
-fn is_held(claim: Claim) -> bool
-    ensures { result ≡ is_held claim }
-{
-    match claim {
-        Claim::Held => true,
-        Claim::Waiting => false,
-        Claim::Taken { .. } => false,
-    }
-}
-
 /// 134 where somebody else holds the home address.
 fn by_claim(bench: &Bench, asked: &Registration, claim: Claim) -> HomeVerdict
     ensures { result ≡ by_claim bench.now asked.now claim }
 {
-    if is_held(claim) {
-        return accepted(bench, asked);
-    }
-    HomeVerdict::Deny {
-        status: status::DAD_FAILED,
-        last: asked.sequence,
+    match claim {
+        Claim::Held => accepted(bench, asked),
+        Claim::Waiting | Claim::Taken { .. } => HomeVerdict::Deny {
+            status: status::DAD_FAILED,
+            last: asked.sequence,
+        },
     }
 }
 

@@ -1,5 +1,5 @@
 -- What a node accepted, as the definitions of bindings have it.
-use Rattle.std.specs.Prelude.{map, ◌<◌, ◌^◌}
+use Rattle.std.specs.Prelude.{map}
 use Rattle.mip_binding.specs.Acceptance as bindings
 use Rattle.mip_binding.specs.Acceptance.{Binding, binding_of}
 use Rattle.mip_history.specs.Bound as bound
@@ -21,7 +21,3 @@ binding_seen a = binding_of (acceptance_seen a)
 
 abbrev pub lived_seen : Lived → bound.Lived
 lived_seen l = record { at = l.at.0; accepted = map acceptance_seen l.accepted.items }
-
--- it came so early that a moment lies as long after it as a nonce lives
-abbrev pub IsEarly : Acceptance → Type 0
-IsEarly a = a.at.0 < 2 ^ 62

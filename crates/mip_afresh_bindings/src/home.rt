@@ -1,11 +1,10 @@
 //! What is remembered of a home behind some acceptances.
 
-ghost use Rattle.std.specs.Prelude.{◌≡◌, ◌+◌, ◌<◌, ◌^◌, map, option_map, IfOk, IfSome};
-ghost use Rattle.std.specs.List.{All};
+ghost use Rattle.std.specs.Prelude.{◌≡◌, ◌+◌, map, option_map, IfOk};
 ghost use Rattle.mip_words.specs.Constants.{max_nonce_lifetime};
 ghost use Rattle.mip_binding.specs.Homes.{latest, joins, kept_of, kept_with, home_step, home_after, number_key};
 ghost use Rattle.mip_binding.specs.Rows.{others_by};
-ghost use Rattle.mip_afresh_bindings.specs.Accepted.{acceptance_seen, binding_seen, IsEarly};
+ghost use Rattle.mip_afresh_bindings.specs.Accepted.{acceptance_seen, binding_seen};
 ghost use Rattle.mip_afresh_bindings.specs.Homes.{home_seen, left_in};
 
 use crate::acceptance::Acceptance;
@@ -25,8 +24,7 @@ pub struct Home {
 /// The latest end of these bindings, and this moment at least.
 #[tactic(auto, using(crate::proofs::HomeLaws::latest_next))]
 fn latest(moment: u128, live: &[Acceptance]) -> u128
-    ensures value { result ≡ latest moment (map binding_seen live.now) }
-    ensures short { moment < 2 ^ 64 → result < 2 ^ 64 }
+    ensures { result ≡ latest moment (map binding_seen live.now) }
 {
     let mut late = moment;
     let mut rest = live;
@@ -79,8 +77,7 @@ fn least_of(at: Moment) -> u128
 
 /// A home behind an acceptance, where these bindings live.
 fn made(accepted: Acceptance, live: Vec<Acceptance>) -> Home
-    ensures value { home_seen result ≡ kept_of (acceptance_seen accepted) (map binding_seen live.items) }
-    ensures short { IsEarly accepted → result.until < 2 ^ 64 }
+    ensures { home_seen result ≡ kept_of (acceptance_seen accepted) (map binding_seen live.items) }
 {
     Home {
         home: accepted.home,
@@ -92,8 +89,7 @@ fn made(accepted: Acceptance, live: Vec<Acceptance>) -> Home
 
 /// A home behind one acceptance more.
 fn kept_with(alloc: Global, kept: Option<Home>, accepted: Acceptance) -> Result<Home, Memory>
-    ensures value { IfOk result (λ h. home_seen h ≡ kept_with (option_map home_seen kept) (acceptance_seen accepted)) }
-    ensures short { IsEarly accepted → IfOk result (λ h. h.until < 2 ^ 64) }
+    ensures { IfOk result (λ h. home_seen h ≡ kept_with (option_map home_seen kept) (acceptance_seen accepted)) }
 {
     let mut live = match kept {
         Some(home) => home.left(alloc, accepted)?,
@@ -110,8 +106,7 @@ fn home_step(
     kept: Option<Home>,
     accepted: Acceptance,
 ) -> Result<Option<Home>, Memory>
-    ensures value { IfOk result (λ o. option_map home_seen o ≡ home_step home.0 (option_map home_seen kept) (acceptance_seen accepted)) }
-    ensures short { IsEarly accepted → IfSome kept (λ h. h.until < 2 ^ 64) → IfOk result (λ o. IfSome o (λ h. h.until < 2 ^ 64)) }
+    ensures { IfOk result (λ o. option_map home_seen o ≡ home_step home.0 (option_map home_seen kept) (acceptance_seen accepted)) }
 {
     if accepted.home.0 == home.0 {
         Ok(Some(kept_with(alloc, kept, accepted)?))
@@ -126,8 +121,7 @@ pub fn home_after(
     home: Address,
     accepted: &[Acceptance],
 ) -> Result<Option<Home>, Memory>
-    ensures value { IfOk result (λ o. option_map home_seen o ≡ home_after home.0 (map acceptance_seen accepted.now)) }
-    ensures short { All IsEarly accepted.now → IfOk result (λ o. IfSome o (λ h. h.until < 2 ^ 64)) }
+    ensures { IfOk result (λ o. option_map home_seen o ≡ home_after home.0 (map acceptance_seen accepted.now)) }
 {
     let mut kept = None;
     for one in accepted {

@@ -52,9 +52,12 @@ token_numbered posts k = option_and_then (λ p. token_in p.carried) (post_number
 abbrev pub key_numbered : List KeptPost → ℕ → Option UpdateIdentity
 key_numbered posts k = option_and_then (λ p. key_in p.carried) (post_numbered posts k)
 
--- the sights that are kept
+-- some that are kept, and all of them
+abbrev pub seen_of : Sights → List KeptSight → List Sight
+seen_of s seen = map (sight_seen (token_numbered s.posts.items)) seen
+
 abbrev pub sights_in : Sights → List Sight
-sights_in s = map (sight_seen (token_numbered s.posts.items)) s.seen.items
+sights_in s = seen_of s s.seen.items
 
 -- each packet stands at its number
 abbrev pub AreNumbered : Sights → Type 0

@@ -8,6 +8,7 @@ mod lives;
 mod marks;
 mod names;
 mod noting;
+mod numbered;
 mod pairs;
 mod post;
 mod posts;

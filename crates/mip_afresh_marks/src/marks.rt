@@ -7,6 +7,7 @@ ghost use Rattle.mip_provenance.specs.Marks.{by_claims, by_first, mark_of};
 ghost use Rattle.mip_provenance.specs.Seen.{claim_of};
 ghost use Rattle.mip_afresh_marks.specs.Sighting.{sights_in, AreNumbered};
 
+use crate::numbered::Numbered;
 use crate::sights::Sights;
 use mip_packets::UpdateIdentity;
 use mip_provenance::{AcceptedUpdate, Claim, Mark, Signed};
@@ -46,11 +47,12 @@ impl Sights {
             }
         }
     }
+}
 
+impl Numbered<'_> {
     /// The mark of the acceptance of an update that was found.
     fn mark_with(&self, accepted: &AcceptedUpdate, own: Address, key: &UpdateIdentity) -> Mark
-        requires { AreNumbered self.now }
-        ensures { result ≡ by_first (sights_in self.now) accepted.now own (key_of key.now) (first_update (sights_in self.now) (key_of key.now)) }
+        ensures { result ≡ by_first (sights_in self.now.sights.now) accepted.now own (key_of key.now) (first_update (sights_in self.now.sights.now) (key_of key.now)) }
     {
         let Some(update) = self.first_update(key) else {
             return Mark::Forged(1);
@@ -64,20 +66,22 @@ impl Sights {
             key: *key,
             witness: None,
         };
-        let Some(pair) = self.pair(accepted.careof_index, &signed, update, maker) else {
+        let Some(pair) = self
+            .sights
+            .pair(accepted.careof_index, &signed, update, maker)
+        else {
             return Mark::Forged(1);
         };
-        let life = self.life(accepted.node);
+        let life = self.sights.life(accepted.node);
         let home = accepted.home_claim(life, &pair);
         let careof = accepted.careof_claim(life, &pair);
-        self.judged(&home, &careof, update)
+        self.sights.judged(&home, &careof, update)
     }
 
-    /// The mark of an update that is accepted behind these sights by a node with an address of its own.
+    /// The mark of an update that is accepted by a node with an address of its own.
     #[tactic(auto, unfolding(mip_provenance::specs::Marks::mark_of))]
-    pub fn mark(&self, accepted: &AcceptedUpdate, own: Option<Address>) -> Mark
-        requires { AreNumbered self.now }
-        ensures { result ≡ mark_of (sights_in self.now) accepted.now own }
+    fn mark(&self, accepted: &AcceptedUpdate, own: Option<Address>) -> Mark
+        ensures { result ≡ mark_of (sights_in self.now.sights.now) accepted.now own }
     {
         let Some(own) = own else {
             return Mark::Forged(1);
@@ -86,5 +90,16 @@ impl Sights {
             return Mark::Forged(1);
         };
         self.mark_with(accepted, own, &key)
+    }
+}
+
+impl Sights {
+    /// The mark of an update that is accepted behind these sights by a node with an address of its own.
+    pub fn mark(&self, accepted: &AcceptedUpdate, own: Option<Address>) -> Mark
+        requires { AreNumbered self.now }
+        ensures { result ≡ mark_of (sights_in self.now) accepted.now own }
+    {
+        let numbered = Numbered { sights: self };
+        numbered.mark(accepted, own)
     }
 }

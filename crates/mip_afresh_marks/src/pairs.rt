@@ -1,13 +1,12 @@
 //! The pair of tokens behind the first packet of an update.
 
-ghost use Rattle.std.specs.Prelude.{◌≡◌, ◌≤◌, ℕ, List, Option, length, option_map};
+ghost use Rattle.std.specs.Prelude.{◌≡◌, ℕ, List, Option, option_map};
 ghost use Rattle.mip_provenance.specs.Lists.{first_some, until};
 ghost use Rattle.mip_provenance.specs.Reached.{value_heard, values};
 ghost use Rattle.mip_provenance.specs.Firsts.{is_post};
 ghost use Rattle.mip_provenance.specs.Pairs.{made_with, pair_made, first_alone, first_with, pair_by};
 ghost use Rattle.mip_provenance.specs.Seen.{pair_of, gives_it};
-ghost use Rattle.mip_afresh_marks.specs.Sighting.{sight_seen, token_numbered, sights_in};
-ghost use Rattle.mip_afresh_marks.specs.Searches.{front_in};
+ghost use Rattle.mip_afresh_marks.specs.Sighting.{sight_seen, token_numbered, seen_of, sights_in};
 
 use crate::post::Post;
 use crate::posts::token;
@@ -93,25 +92,23 @@ impl Sights {
         }
     }
 
-    /// The place of packet k.
-    fn place_of(&self, k: u64) -> usize
-        ensures within { result ≤ length self.now.seen.items }
-        ensures front { front_in self.now result ≡ until (is_post k) (sights_in self.now) }
+    /// What was seen before packet k was posted.
+    fn before(&self, k: u64) -> &[Sight]
+        ensures { seen_of self.now result.now ≡ until (is_post k) (sights_in self.now) }
     {
         for (place, sight) in self.seen.iter().enumerate() {
             if is_post(sight, k) {
-                return place;
+                return &self.seen[..place];
             }
         }
-        self.seen.len()
+        &self.seen
     }
 
-    /// The first token that an outsider had heard before a place and that gives the authenticator alone.
-    fn first_alone(&self, place: usize, signed: &Signed, by: u8) -> Option<Pair>
-        requires { place ≤ length self.now.seen.items }
-        ensures { option_map pair_of result ≡ first_alone (gives_it signed.now) (values by (front_in self.now place)) }
+    /// The first token that an outsider heard in front and that gives the authenticator alone.
+    fn first_alone(&self, front: &[Sight], signed: &Signed, by: u8) -> Option<Pair>
+        ensures { option_map pair_of result ≡ first_alone (gives_it signed.now) (values by (seen_of self.now front.now)) }
     {
-        for sight in &self.seen[..place] {
+        for sight in front {
             match heard_by(&self.posts, sight, by) {
                 Some(token) => match signed.alone(token) {
                     Some(pair) => return Some(pair),
@@ -123,12 +120,11 @@ impl Sights {
         None
     }
 
-    /// The first token that an outsider had heard before a place and that gives the authenticator with a home token.
-    fn first_with(&self, place: usize, signed: &Signed, by: u8, home: Token) -> Option<Pair>
-        requires { place ≤ length self.now.seen.items }
-        ensures { option_map pair_of result ≡ first_with (gives_it signed.now) (values by (front_in self.now place)) home.0 }
+    /// The first token that an outsider heard in front and that gives the authenticator with a home token.
+    fn first_with(&self, front: &[Sight], signed: &Signed, by: u8, home: Token) -> Option<Pair>
+        ensures { option_map pair_of result ≡ first_with (gives_it signed.now) (values by (seen_of self.now front.now)) home.0 }
     {
-        for sight in &self.seen[..place] {
+        for sight in front {
             match heard_by(&self.posts, sight, by) {
                 Some(token) => match signed.both(home, token) {
                     Some(pair) => return Some(pair),
@@ -140,15 +136,14 @@ impl Sights {
         None
     }
 
-    /// The first two tokens that an outsider had heard before a place and that give the authenticator.
-    fn first_both(&self, place: usize, signed: &Signed, by: u8) -> Option<Pair>
-        requires { place ≤ length self.now.seen.items }
+    /// The first two tokens that an outsider heard in front and that give the authenticator.
+    fn first_both(&self, front: &[Sight], signed: &Signed, by: u8) -> Option<Pair>
         ensures { option_map pair_of result
-            ≡ first_some (first_with (gives_it signed.now) (values by (front_in self.now place))) (values by (front_in self.now place)) }
+            ≡ first_some (first_with (gives_it signed.now) (values by (seen_of self.now front.now))) (values by (seen_of self.now front.now)) }
     {
-        for sight in &self.seen[..place] {
+        for sight in front {
             match heard_by(&self.posts, sight, by) {
-                Some(token) => match self.first_with(place, signed, by, token) {
+                Some(token) => match self.first_with(front, signed, by, token) {
                     Some(pair) => return Some(pair),
                     None => (),
                 },
@@ -171,10 +166,10 @@ impl Sights {
         match maker {
             Maker::Node(node) => self.pair_made(careof, signed, node, k),
             Maker::Outsider(outsider) => {
-                let place = self.place_of(k);
+                let front = self.before(k);
                 match careof {
-                    None => self.first_alone(place, signed, outsider),
-                    Some(_) => self.first_both(place, signed, outsider),
+                    None => self.first_alone(front, signed, outsider),
+                    Some(_) => self.first_both(front, signed, outsider),
                 }
             }
         }

@@ -1,6 +1,8 @@
-ghost use Rattle.std.specs.Prelude.{◌≡◌, ℕ, List, Option, None, IfOk};
+ghost use Rattle.std.specs.Prelude.{◌≡◌, ℕ, List, Option, IfOk};
+ghost use Rattle.mip_packets.specs.Says.{carried};
 ghost use Rattle.mip_provenance.specs.Sights.{sight_with};
-ghost use Rattle.mip_afresh_marks.specs.Sighting.{number_posted, sight_seen};
+ghost use Rattle.mip_provenance.specs.Sights.Sight.{Sent, Injected};
+ghost use Rattle.mip_afresh_marks.specs.Sighting.{sight_seen};
 
 use crate::said::Said;
 use mip_entries::Entry;
@@ -47,71 +49,67 @@ pub enum Sight {
     Quiet,
 }
 
+/// A packet that a node sends, as a sight.
+fn sent(alloc: Global, number: u64, node: NodeId, packet: &[u8]) -> Result<Sight, Memory>
+    ensures { IfOk result (λ s. (token : ℕ → Option (List ℕ)) → sight_seen token s ≡ Sent number node.0 (carried packet.now)) }
+{
+    let said = Said::by(alloc, packet)?;
+    Ok(Sight::Sent { number, node, said })
+}
+
+/// One that an outsider injects.
+fn injected(alloc: Global, number: u64, outsider: u8, packet: &[u8]) -> Result<Sight, Memory>
+    ensures { IfOk result (λ s. (token : ℕ → Option (List ℕ)) → sight_seen token s ≡ Injected number outsider (carried packet.now)) }
+{
+    let said = Said::by(alloc, packet)?;
+    Ok(Sight::Injected {
+        number,
+        outsider,
+        said,
+    })
+}
+
 impl Sight {
     /// An entry as a sight.
     pub fn by(alloc: Global, entry: &Entry) -> Result<Sight, Memory>
         ensures { IfOk result (λ s. (token : ℕ → Option (List ℕ)) → sight_seen token s ≡ sight_with token entry.now) }
     {
-        match entry {
+        Ok(match entry {
             Entry::Sent {
                 number,
                 node,
                 packet,
                 ..
-            } => {
-                let said = Said::by(alloc, packet.as_slice())?;
-                Ok(Sight::Sent {
-                    number: *number,
-                    node: *node,
-                    said,
-                })
-            }
+            } => sent(alloc, *number, *node, packet.as_slice())?,
             Entry::Injected {
                 number,
                 outsider,
                 packet,
                 ..
-            } => {
-                let said = Said::by(alloc, packet.as_slice())?;
-                Ok(Sight::Injected {
-                    number: *number,
-                    outsider: *outsider,
-                    said,
-                })
-            }
-            _ => Ok(unposted(entry)),
-        }
-    }
-}
-
-/// An entry that posts no packet, as a sight.
-fn unposted(entry: &Entry) -> Sight
-    requires { number_posted entry.now ≡ None }
-    ensures { (token : ℕ → Option (List ℕ)) → sight_seen token result ≡ sight_with token entry.now }
-{
-    match entry {
-        Entry::Heard { number, outsider } => Sight::Heard {
-            outsider: *outsider,
-            number: *number,
-        },
-        Entry::Handed { number, node } => Sight::Handed {
-            node: *node,
-            number: *number,
-        },
-        Entry::Home { node, .. } => Sight::Agent(*node),
-        Entry::Made {
-            node,
-            number,
-            home,
-            careof,
-            ..
-        } => Sight::Made {
-            node: *node,
-            number: *number,
-            home: *home,
-            careof: *careof,
-        },
-        Entry::Restarted { node } => Sight::Restarted(*node),
-        _ => Sight::Quiet,
+            } => injected(alloc, *number, *outsider, packet.as_slice())?,
+            Entry::Heard { number, outsider } => Sight::Heard {
+                outsider: *outsider,
+                number: *number,
+            },
+            Entry::Handed { number, node } => Sight::Handed {
+                node: *node,
+                number: *number,
+            },
+            Entry::Home { node, .. } => Sight::Agent(*node),
+            Entry::Made {
+                node,
+                number,
+                home,
+                careof,
+                ..
+            } => Sight::Made {
+                node: *node,
+                number: *number,
+                home: *home,
+                careof: *careof,
+            },
+            Entry::Restarted { node } => Sight::Restarted(*node),
+            _ => Sight::Quiet,
+        })
     }
 }

@@ -1,12 +1,15 @@
 -- A packet that was read is checked by what the correspondent part keeps of what it asks.
 use Rattle.std.proofs.Common.{◌≡◌, ℕ, List, Bool, true, false, refl, sym, ap, subst, ◌∙◌, if◌then◌else◌}
-use Rattle.std.specs.Prelude.{Option, Some, None, Result, Ok}
+use Rattle.std.specs.Prelude.{Option, Some, None, Result, Ok, IsTrue}
 use Rattle.mip_words.specs.declared.address.Address.{Address}
 use Rattle.mip_words.specs.declared.why.Why.TheVariants as whys
 use Rattle.mip_ipv6.specs.declared.head.Head.{Head}
-use Rattle.mip_ipv6.specs.Packet.{Packet}
+use Rattle.mip_ipv6.specs.Packet.{Packet, is_routable_if_any}
+use Rattle.mip_ipv6.specs.Reading.{packet_of}
+use Rattle.mip_ipv6.specs.Tunnel.{opened}
+use Rattle.mip_ipv6.proofs.Packets.{packet_takes}
+use Rattle.mip_ipv6.proofs.Placed.{home_routable}
 use Rattle.mip_mobhdr.specs.Said.{Said}
-use Rattle.mip_reception.specs.Says.{message_in}
 use Rattle.mip_reception.specs.declared.refusal.Refusal.{Refusal}
 use Rattle.mip_reception.specs.declared.address_match.AddressMatch.{AddressMatch}
 use Rattle.mip_reception.specs.Checks.{checked}
@@ -15,23 +18,25 @@ use Rattle.mip_rules_correspondent.specs.Rules.{holds_option, place_in}
 use Rattle.mip_rules_mobile.specs.ReceivingRules.{inner_standing}
 use Rattle.mip_rules_mobile.specs.Steps.{Drops}
 use Rattle.mip_rules_mobile.specs.Transitions.{Transition, noted}
-use Rattle.mip_rules_mobile.proofs.Checks.{checked-in}
+use Rattle.mip_rules_mobile.proofs.Checks.{opened-reads}
 use Rattle.mip_afresh_rules.specs.declared.kept.Kept.{Kept}
 use Rattle.mip_afresh_rules.specs.Keeping.{holds_home, IsKept}
 use Rattle.mip_afresh_mobile_state.specs.declared.turn.Turn.{Turn}
 use Rattle.mip_afresh_mobile_state.specs.Turns.{Shows}
-use Rattle.mip_afresh_bindings.specs.declared.acceptance.Acceptance.{Acceptance}
 use Rattle.mip_bcache.specs.Seen.{CacheSeen}
-use Rattle.mip_words.specs.declared.shield.Shield.{Shield}
+use Rattle.mip_afresh_mobile.specs.declared.arrival.Arrival.{Arrival}
 use Rattle.mip_afresh_mobile.specs.declared.handed.Handed.{Handed}
-use Rattle.mip_afresh_mobile.specs.Asking.{kept_at}
+use Rattle.mip_afresh_mobile.specs.Asking.{handed_as}
 use Rattle.mip_afresh_mobile.specs.Nodes.{AreAccepted}
 use Rattle.mip_afresh_mobile.specs.Tunnels.{first_fault, unless_fault}
 use Rattle.mip_afresh_mobile.proofs.Turned.{shows-now}
 
--- what passes is the message of the packet
-pub checked_in : (standing : AddressMatch) (place : ℕ) (p : Packet) (m : Option Said) → checked standing place p ≡ Ok m → message_in p ≡ m
-checked_in standing place p m e = checked-in standing place p m e
+-- what comes out of a tunnel is what its bytes read as, and its Home Address option is routable, where one stands
+pub inner_reads : (agent : Address) (p q : Packet) → opened agent p ≡ Ok q → packet_of p.body ≡ Ok q
+inner_reads agent p q opens = opened-reads agent p q opens
+
+pub inner_plain : (agent : Address) (p q : Packet) → opened agent p ≡ Ok q → IsTrue (is_routable_if_any q.head.home)
+inner_plain agent p q opens = home_routable q p.body (packet_takes p.body q (opened-reads agent p q opens))
 
 holds-same : (k : parts.Known) (now : ℕ) (source : Address) (home : Option Address) → holds_option k now source home ≡ holds_home k.cache now source home
 holds-same k now source None = refl
@@ -70,8 +75,7 @@ fault-first false false false true number rest t = refl
 fault-first false false false false number rest t = refl
 
 -- what a packet was handed with is what the part keeps
-pub kept-here : (number : ℕ) (shield : Option Shield) (tunnelled : Bool) (numbers : ℕ) (accepted : List Acceptance) (now : ℕ) (head : Head) (handed : Handed) (cache : CacheSeen)
-    → handed ≡ record { number = number; shield = shield; tunnelled = tunnelled; kept = kept_at numbers accepted now head } → AreAccepted numbers now accepted cache
-    → IsKept handed.kept cache now head.source head.home
-kept-here number shield tunnelled numbers accepted now head handed cache is are =
+pub kept-here : (arrival : Arrival) (tunnelled : Bool) (now : ℕ) (head : Head) (handed : Handed) (cache : CacheSeen)
+    → handed ≡ handed_as arrival tunnelled now head → AreAccepted arrival.numbers now arrival.accepted.now cache → IsKept handed.kept cache now head.source head.home
+kept-here arrival tunnelled now head handed cache is are =
     subst (λ (k : Kept). IsKept k cache now head.source head.home) (sym (ap (λ (h : Handed). h.kept) is)) (are head.source head.home)

@@ -1,5 +1,5 @@
 -- Rules that ask what the correspondent part of a mobile keeps, and a trial whose update waits for an answer.
-use Rattle.std.specs.Prelude.{ℕ, List, map, Option, Result, OnOk}
+use Rattle.std.specs.Prelude.{ℕ, List, Bool, map, Option, Result, OnOk}
 use Rattle.mip_words.specs.declared.address.Address.{Address}
 use Rattle.mip_ipv6.specs.declared.head.Head.{Head}
 use Rattle.mip_bulist.specs.declared.any.Any.{Any}
@@ -17,6 +17,8 @@ use Rattle.mip_afresh_mobile_state.specs.declared.trial.Tested.{Tested}
 use Rattle.mip_afresh_mobile_state.specs.declared.turn.Turn.{Turn}
 use Rattle.mip_afresh_mobile_state.specs.Trials.{trial_in, tested_seen, any_seen}
 use Rattle.mip_afresh_mobile_state.specs.Turns.{Shows}
+use Rattle.mip_afresh_mobile.specs.declared.arrival.Arrival.{Arrival}
+use Rattle.mip_afresh_mobile.specs.declared.handed.Handed.{Handed}
 use Rattle.mip_afresh_mobile.specs.Nodes.{AreAccepted}
 
 -- one that asks what the part keeps of a packet from a source and a home: of each in which this is kept
@@ -32,6 +34,15 @@ GoesFrom numbers accepted result rule old new =
 -- what it keeps of a packet with this head behind these updates
 abbrev pub kept_at : (numbers : ℕ) → List Acceptance → (now : ℕ) → Head → Kept
 kept_at numbers accepted now head = kept_among part_room numbers (map acceptance_seen accepted) now (record { source = head.source; home = head.home })
+
+-- a packet with this head as it arrived, straight or out of a tunnel
+abbrev pub handed_as : Arrival → (tunnelled : Bool) → (now : ℕ) → Head → Handed
+handed_as a tunnelled now head = record {
+  number = a.number;
+  shield = a.shield;
+  tunnelled = tunnelled;
+  kept = kept_at a.numbers a.accepted.now now head;
+}
 
 -- a row whose update waits for an acknowledgement
 abbrev pub pending_in : Row → Tested → ℕ → trials.Trial pending.Pending

@@ -1,6 +1,6 @@
 //! Replies to a discovery of agents, and Mobile Prefix Advertisements (RFC 6275 sections 11.4.1 and 11.4.3).
 
-ghost use Rattle.std.specs.Prelude.{◌≡◌, ◌≤◌, IfOk, Ok, if◌then◌else◌, length, option_map};
+ghost use Rattle.std.specs.Prelude.{◌≡◌, IfOk, Ok, if◌then◌else◌, option_map};
 ghost use Rattle.mip_ipv6.specs.Packet.{packet as tree};
 ghost use Rattle.mip_icmp.specs.Options.{set_of};
 ghost use Rattle.mip_icmp.specs.Said.{said};
@@ -11,9 +11,9 @@ ghost use Rattle.mip_afresh_mobile_state.specs.Turns.{Goes};
 use crate::handed::Handed;
 use mip_afresh_mobile_rules::register;
 use mip_afresh_mobile_state::{Discovery, Turn};
+use mip_afresh_rules::Passed;
 use mip_bulist::{HomeTimer, Work};
 use mip_icmp::{Icmp, IcmpOptions, PrefixInfo, read_icmp};
-use mip_ipv6::PacketRef;
 use mip_rules_mobile::Attachment;
 use mip_words::{Address, Memory, Shield, Why};
 use std::alloc::Global;
@@ -169,13 +169,12 @@ pub fn take_icmp(
     alloc: Global,
     turn: &mut Turn,
     handed: &Handed,
-    packet: &PacketRef<'_>,
+    passed: &Passed<'_>,
 ) -> Result<(), Memory>
-    requires { length packet.now.body.now ≤ 65535 }
-    ensures { Goes result (takes_icmp handed.now.number handed.now.shield (tree packet.now)) turn.old turn.new }
+    ensures { Goes result (takes_icmp handed.now.number handed.now.shield (tree passed.now.packet)) turn.old turn.new }
 {
-    let head = &packet.head;
-    match read_icmp(head.sender(), head.receiver(), packet.body) {
+    let head = &passed.packet.head;
+    match read_icmp(head.sender(), head.receiver(), passed.packet.body) {
         Ok(message) => take_message(alloc, turn, handed.number, handed.shield, &message),
         Err(_) => turn.drop_packet(handed.number, Why::Icmp),
     }

@@ -1,7 +1,7 @@
 //! What the correspondent part keeps of what a packet asks.
 
 ghost use Rattle.std.specs.Prelude.{◌≡◌, IfOk};
-ghost use Rattle.mip_afresh_mobile.specs.Asking.{kept_at};
+ghost use Rattle.mip_afresh_mobile.specs.Asking.{handed_as};
 
 use crate::arrival::Arrival;
 use crate::handed::Handed;
@@ -22,7 +22,7 @@ pub fn handed_at(
     head: &Head,
     tunnelled: bool,
 ) -> Result<Handed, Memory>
-    ensures { IfOk result (λ h. h ≡ record { number = arrival.now.number; shield = arrival.now.shield; tunnelled = tunnelled; kept = kept_at arrival.now.numbers arrival.now.accepted.now now.0 head.now }) }
+    ensures { IfOk result (λ h. h ≡ handed_as arrival.now tunnelled now.0 head.now) }
 {
     let Arrival {
         number,

@@ -1,6 +1,5 @@
-ghost use Rattle.std.specs.Prelude.{◌≡◌, ◌<◌, ◌≤◌, ◌^◌, [], IfOk, OnOk, IfSome, IsTrue, IsFalse, is_some, length};
+ghost use Rattle.std.specs.Prelude.{◌≡◌, ◌≤◌, [], IfOk, OnOk, IfSome, IsTrue, is_some};
 ghost use Rattle.mip_words.specs.Addresses.{is_routable};
-ghost use Rattle.mip_ipv6.specs.Packet.{names_no_body};
 ghost use Rattle.mip_bulist.specs.Timers.{first_due};
 ghost use Rattle.mip_rules_correspondent.specs.Questions.{held_of};
 ghost use Rattle.mip_rules_mobile.specs.Calls as calls;
@@ -21,6 +20,7 @@ use crate::sending::{solicit, transmit};
 use mip_afresh_bindings::Acceptance;
 use mip_afresh_mobile_rules::{attach, begin_anew, leave, tick};
 use mip_afresh_mobile_state::{Mobile, Turn};
+use mip_afresh_rules::{Payload, Routable};
 use mip_entries::Answers;
 use mip_nonce::Secrets;
 use mip_outside::Claim;
@@ -101,7 +101,6 @@ impl Node {
         packet: &[u8],
         accepted: &[Acceptance],
     ) -> Result<Answers, Memory>
-        requires early { now.0 < 2 ^ 62 }
         requires accepted { AreAccepted self.old.numbers now.0 accepted.now (known_to self.old).part.known.cache }
         ensures answers { IfOk result (λ a. a ≡ answers_of (transition_at self.old now.0 (calls.Take number shield packet.now)).steps) }
         ensures goes_on { OnOk result (self.new ≡ after_call self.old now.0 (calls.Take number shield packet.now)) }
@@ -131,31 +130,26 @@ impl Node {
         Ok(answers)
     }
 
-    /// It is to send data. Its correspondent part holds this care-of address for the destination. The protocol names a body, and it is
-    /// of 512 bytes at most.
+    /// It is to send data. Its correspondent part holds this care-of address for the destination.
     pub fn send(
         &mut self,
         alloc: Global,
         now: Moment,
-        to: Address,
-        proto: u8,
-        payload: &[u8],
+        to: Routable,
+        payload: &Payload<'_>,
         held: Option<Address>,
     ) -> Result<Answers, Memory>
-        requires held { held ≡ held_of (known_to self.old).part.known now.0 to }
-        requires routable { IsTrue (is_routable to.0) }
-        requires proto { IsFalse (names_no_body proto) }
-        requires short { length payload.now ≤ 512 }
-        ensures answers { IfOk result (λ a. a ≡ answers_of (transition_at self.old now.0 (calls.Send to proto payload.now)).steps) }
-        ensures goes_on { OnOk result (self.new ≡ after_call self.old now.0 (calls.Send to proto payload.now)) }
+        requires held { held ≡ held_of (known_to self.old).part.known now.0 to.address }
+        ensures answers { IfOk result (λ a. a ≡ answers_of (transition_at self.old now.0 (calls.Send to.address payload.now.proto payload.now.bytes.now)).steps) }
+        ensures goes_on { OnOk result (self.new ≡ after_call self.old now.0 (calls.Send to.address payload.now.proto payload.now.bytes.now)) }
     {
-        let copy = Bytes::copy(alloc, payload)?;
+        let copy = Bytes::copy(alloc, payload.bytes)?;
         let mut turn = begin(alloc, now, self.mobile.take())?;
-        transmit(alloc, &mut turn, to, proto, payload, held)?;
+        transmit(alloc, &mut turn, to, payload, held)?;
         let at = now;
         let asked = Asked::Send {
-            to,
-            proto,
+            to: to.address,
+            proto: payload.proto,
             payload: copy,
         };
         self.past.add(&Called { at, asked });
@@ -173,18 +167,17 @@ impl Node {
         &mut self,
         alloc: Global,
         now: Moment,
-        home: Address,
+        home: Routable,
         held: Option<Address>,
     ) -> Result<Answers, Memory>
-        requires held { held ≡ held_of (known_to self.old).part.known now.0 home }
-        requires routable { IsTrue (is_routable home.0) }
-        ensures answers { IfOk result (λ a. a ≡ answers_of (transition_at self.old now.0 (calls.Refresh home)).steps) }
-        ensures goes_on { OnOk result (self.new ≡ after_call self.old now.0 (calls.Refresh home)) }
+        requires held { held ≡ held_of (known_to self.old).part.known now.0 home.address }
+        ensures answers { IfOk result (λ a. a ≡ answers_of (transition_at self.old now.0 (calls.Refresh home.address)).steps) }
+        ensures goes_on { OnOk result (self.new ≡ after_call self.old now.0 (calls.Refresh home.address)) }
     {
         let mut turn = begin(alloc, now, self.mobile.take())?;
         ask_refresh(alloc, &mut turn, home, held)?;
         let at = now;
-        let asked = Asked::Refresh { home };
+        let asked = Asked::Refresh { home: home.address };
         self.past.add(&Called { at, asked });
         let Turn {
             mobile,

@@ -1,17 +1,13 @@
 //! What a mobile does about a packet (RFC 6275 sections 9.2, 9.3.1 and 11.3.3).
 
-ghost use Rattle.std.specs.Prelude.{◌≡◌, ◌<◌, ◌≤◌, ◌-◌, ◌^◌, ℕ, List, Ok, IsTrue, length, option_map, false};
-ghost use Rattle.mip_ipv6.specs.Packet.{packet as tree, is_routable_if_any};
+ghost use Rattle.std.specs.Prelude.{◌≡◌, ℕ, List, Ok, option_map, false};
+ghost use Rattle.mip_ipv6.specs.Packet.{packet as tree};
 ghost use Rattle.mip_mobhdr.specs.Said.{said};
-ghost use Rattle.mip_packets.specs.Says.{message_in};
-ghost use Rattle.mip_packets.specs.Updates.{IsReadUpdate};
-ghost use Rattle.mip_reception.specs.Checks.{checked};
-ghost use Rattle.mip_rules_correspondent.specs.Rules.{place_in};
 ghost use Rattle.mip_rules_mobile.specs.ReceivingRules.{after_checks, is_address_of, takes_route, standing_of, receives, takes};
 ghost use Rattle.mip_rules_mobile.specs.Transitions.{Transition};
 ghost use Rattle.mip_rules_correspondent.specs.Rules.{holds_option};
 ghost use Rattle.mip_afresh_mobile_state.specs.Turns.{Shows};
-ghost use Rattle.mip_afresh_mobile.specs.Asking.{GoesFrom, kept_at};
+ghost use Rattle.mip_afresh_mobile.specs.Asking.{GoesFrom, handed_as};
 
 use crate::arrival::Arrival;
 use crate::handed::Handed;
@@ -20,17 +16,13 @@ use crate::refusing::refuse;
 use crate::roles::take_role;
 use crate::tunnelled::open;
 use mip_afresh_mobile_state::Turn;
-use mip_afresh_rules::{check, packet_why};
-use mip_ipv6::{Head, PacketRef, read_packet};
-use mip_mobhdr::Message;
+use mip_afresh_rules::{Passed, Received, check, packet_why};
+use mip_ipv6::{Head, read_packet};
 use mip_reception::AddressMatch;
 use mip_rules_mobile::Attachment;
 use mip_words::protocol::IPV6;
 use mip_words::{Address, Memory};
 use std::alloc::Global;
-
-/// No run comes to this moment.
-const LATE: u64 = 4_611_686_018_427_387_904;
 
 /// The mobile's address: away the care-of address, at home the home address.
 fn is_address_of(standing: Attachment, home: Address, address: Address) -> bool
@@ -72,22 +64,16 @@ fn take_passed(
     turn: &mut Turn,
     arrival: &Arrival<'_>,
     handed: &Handed,
-    packet: &PacketRef<'_>,
-    message: &Option<Message<'_>>,
+    passed: &Passed<'_>,
 ) -> Result<(), Memory>
-    requires early { turn.old.now.0 < 2 ^ 62 }
-    requires plain { IsTrue (is_routable_if_any packet.now.head.home) }
-    requires short { length packet.now.body.now ≤ 65535 }
-    requires read { IsReadUpdate (option_map said message.now) packet.now.body.now }
-    requires message { message_in (tree packet.now) ≡ option_map said message.now }
-    requires handed { handed.now ≡ record { number = arrival.now.number; shield = arrival.now.shield; tunnelled = false; kept = kept_at arrival.now.numbers arrival.now.accepted.now turn.old.now.0 packet.now.head } }
+    requires { handed.now ≡ handed_as arrival.now false turn.old.now.0 passed.now.packet.head }
     ensures { (bytes : List ℕ) → GoesFrom arrival.now.numbers arrival.now.accepted.now result
-        (after_checks arrival.now.number arrival.now.shield bytes (tree packet.now) (Ok (option_map said message.now))) turn.old turn.new }
+        (after_checks arrival.now.number arrival.now.shield bytes (tree passed.now.packet) (Ok (option_map said passed.now.message))) turn.old turn.new }
 {
-    if packet.head.proto == IPV6 {
-        open(alloc, turn, arrival, packet)
+    if passed.packet.head.proto == IPV6 {
+        open(alloc, turn, arrival, passed)
     } else {
-        take_role(alloc, turn, handed, packet, message)
+        take_role(alloc, turn, handed, passed)
     }
 }
 
@@ -96,32 +82,27 @@ fn take_packet(
     alloc: Global,
     turn: &mut Turn,
     arrival: &Arrival<'_>,
-    bytes: &[u8],
-    packet: &PacketRef<'_>,
+    received: &Received<'_>,
 ) -> Result<(), Memory>
-    requires early { turn.old.now.0 < 2 ^ 62 }
-    requires plain { IsTrue (is_routable_if_any packet.now.head.home) }
-    requires short { length packet.now.body.now ≤ 65535 }
-    requires placed { packet.now.place ≡ place_in bytes.now (tree packet.now) }
-    requires near { packet.now.place < 2 ^ 32 - 1 }
     ensures { GoesFrom arrival.now.numbers arrival.now.accepted.now result
-        (receives arrival.now.number arrival.now.shield bytes.now (Ok (tree packet.now))) turn.old turn.new }
+        (receives arrival.now.number arrival.now.shield received.now.bytes.now (Ok (tree received.now.packet))) turn.old turn.new }
 {
+    let packet = received.packet;
     let handed = handed_at(alloc, turn.now, arrival, &packet.head, false)?;
-    match check(packet, standing_of(turn, handed.kept.holds, &packet.head)) {
-        Ok(message) => take_passed(alloc, turn, arrival, &handed, packet, &message),
+    match check(received, standing_of(turn, handed.kept.holds, &packet.head)) {
+        Ok(message) => take_passed(alloc, turn, arrival, &handed, &Passed { packet, message }),
         Err(refusal) => refuse(
             alloc,
             turn,
             arrival.number,
-            bytes,
+            received.bytes,
             packet.head.source,
             refusal,
         ),
     }
 }
 
-/// A packet is handed to it. At a moment from 2^62 on it is answered as if memory had run out.
+/// A packet is handed to it.
 pub fn take(
     alloc: Global,
     turn: &mut Turn,
@@ -130,11 +111,8 @@ pub fn take(
 ) -> Result<(), Memory>
     ensures { GoesFrom arrival.now.numbers arrival.now.accepted.now result (takes arrival.now.number arrival.now.shield bytes.now) turn.old turn.new }
 {
-    if turn.now.0 >= LATE {
-        return Err(Memory);
-    }
     match read_packet(bytes) {
-        Ok(packet) => take_packet(alloc, turn, arrival, bytes, &packet),
+        Ok(packet) => take_packet(alloc, turn, arrival, &Received { bytes, packet }),
         Err(fault) => turn.drop_packet(arrival.number, packet_why(fault)),
     }
 }

@@ -1,10 +1,8 @@
 //! A packet that passed the checks and is no tunnel (RFC 6275 sections 9.3.1 and 11.3.3).
 
-ghost use Rattle.std.specs.Prelude.{◌≡◌, ◌<◌, ◌≤◌, ◌^◌, ◌&&◌, IsTrue, Some, is_none, length, option_map};
-ghost use Rattle.mip_ipv6.specs.Packet.{packet as tree, is_routable_if_any};
+ghost use Rattle.std.specs.Prelude.{Some, option_map};
+ghost use Rattle.mip_ipv6.specs.Packet.{packet as tree};
 ghost use Rattle.mip_mobhdr.specs.Said.{said};
-ghost use Rattle.mip_packets.specs.Says.{message_in};
-ghost use Rattle.mip_packets.specs.Updates.{IsReadUpdate};
 ghost use Rattle.mip_rules_mobile.specs.ReceivingRules.{then_meets, takes_for_part, by_proto, by_message, by_role};
 ghost use Rattle.mip_afresh_mobile_state.specs.Turns.{Goes};
 ghost use Rattle.mip_afresh_mobile.specs.Asking.{GoesBy};
@@ -18,7 +16,7 @@ use crate::icmp::take_icmp;
 use crate::meeting::meet;
 use crate::testing::{take_careof_test, take_home_test};
 use mip_afresh_mobile_state::Turn;
-use mip_afresh_rules::is_for_part;
+use mip_afresh_rules::{Passed, is_for_part};
 use mip_ipv6::PacketRef;
 use mip_mobhdr::Message;
 use mip_words::protocol::{ICMPV6, NO_NEXT_HEADER};
@@ -47,18 +45,14 @@ fn take_for_part(
     alloc: Global,
     turn: &mut Turn,
     handed: &Handed,
-    packet: &PacketRef<'_>,
-    message: &Option<Message<'_>>,
+    passed: &Passed<'_>,
 ) -> Result<(), Memory>
-    requires early { turn.old.now.0 < 2 ^ 62 }
-    requires plain { IsTrue (is_routable_if_any packet.now.head.home) }
-    requires read { IsReadUpdate (option_map said message.now) packet.now.body.now }
-    requires message { message_in (tree packet.now) ≡ option_map said message.now }
-    ensures { GoesBy handed.now.kept packet.now.head.source packet.now.head.home result
-        (takes_for_part handed.now.number handed.now.tunnelled (tree packet.now) (option_map said message.now)) turn.old turn.new }
+    ensures { GoesBy handed.now.kept passed.now.packet.head.source passed.now.packet.head.home result
+        (takes_for_part handed.now.number handed.now.tunnelled (tree passed.now.packet) (option_map said passed.now.message)) turn.old turn.new }
 {
-    ask_about(alloc, turn, handed, packet, message)?;
-    then_meet(alloc, turn, handed.tunnelled && message.is_none(), packet)
+    ask_about(alloc, turn, handed, passed)?;
+    let meets = handed.tunnelled && passed.message.is_none();
+    then_meet(alloc, turn, meets, &passed.packet)
 }
 
 /// A packet without a message: ICMPv6, and what has no taker.
@@ -66,14 +60,13 @@ fn take_by_proto(
     alloc: Global,
     turn: &mut Turn,
     handed: &Handed,
-    packet: &PacketRef<'_>,
+    passed: &Passed<'_>,
 ) -> Result<(), Memory>
-    requires short { length packet.now.body.now ≤ 65535 }
-    ensures { Goes result (by_proto handed.now.number handed.now.shield (tree packet.now)) turn.old turn.new }
+    ensures { Goes result (by_proto handed.now.number handed.now.shield (tree passed.now.packet)) turn.old turn.new }
 {
-    let proto = packet.head.proto;
+    let proto = passed.packet.head.proto;
     if proto == ICMPV6 {
-        take_icmp(alloc, turn, handed, packet)
+        take_icmp(alloc, turn, handed, passed)
     } else if proto == NO_NEXT_HEADER {
         turn.drop_packet(handed.number, Why::NoNext)
     } else {
@@ -131,15 +124,14 @@ fn take_other(
     alloc: Global,
     turn: &mut Turn,
     handed: &Handed,
-    packet: &PacketRef<'_>,
-    message: &Option<Message<'_>>,
+    passed: &Passed<'_>,
 ) -> Result<(), Memory>
-    requires short { length packet.now.body.now ≤ 65535 }
-    ensures { Goes result (by_message handed.now.number handed.now.tunnelled handed.now.shield (tree packet.now) (option_map said message.now)) turn.old turn.new }
+    ensures { Goes result
+        (by_message handed.now.number handed.now.tunnelled handed.now.shield (tree passed.now.packet) (option_map said passed.now.message)) turn.old turn.new }
 {
-    match message {
-        Some(message) => take_message(alloc, turn, handed, packet, message),
-        None => take_by_proto(alloc, turn, handed, packet),
+    match &passed.message {
+        Some(message) => take_message(alloc, turn, handed, &passed.packet, message),
+        None => take_by_proto(alloc, turn, handed, passed),
     }
 }
 
@@ -149,20 +141,14 @@ pub fn take_role(
     alloc: Global,
     turn: &mut Turn,
     handed: &Handed,
-    packet: &PacketRef<'_>,
-    message: &Option<Message<'_>>,
+    passed: &Passed<'_>,
 ) -> Result<(), Memory>
-    requires early { turn.old.now.0 < 2 ^ 62 }
-    requires plain { IsTrue (is_routable_if_any packet.now.head.home) }
-    requires short { length packet.now.body.now ≤ 65535 }
-    requires read { IsReadUpdate (option_map said message.now) packet.now.body.now }
-    requires message { message_in (tree packet.now) ≡ option_map said message.now }
-    ensures { GoesBy handed.now.kept packet.now.head.source packet.now.head.home result
-        (by_role handed.now.number handed.now.tunnelled handed.now.shield (tree packet.now) (option_map said message.now)) turn.old turn.new }
+    ensures { GoesBy handed.now.kept passed.now.packet.head.source passed.now.packet.head.home result
+        (by_role handed.now.number handed.now.tunnelled handed.now.shield (tree passed.now.packet) (option_map said passed.now.message)) turn.old turn.new }
 {
-    if is_for_part(packet.head.proto, message) {
-        take_for_part(alloc, turn, handed, packet, message)
+    if is_for_part(passed.packet.head.proto, &passed.message) {
+        take_for_part(alloc, turn, handed, passed)
     } else {
-        take_other(alloc, turn, handed, packet, message)
+        take_other(alloc, turn, handed, passed)
     }
 }

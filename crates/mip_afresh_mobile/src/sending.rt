@@ -1,8 +1,6 @@
 //! Data and solicitations that a mobile is asked to send (RFC 6275 sections 11.3.1 and 11.4.2).
 
-ghost use Rattle.std.specs.Prelude.{◌≡◌, ◌≤◌, ℕ, IsTrue, IsFalse, OnOk, Some, length};
-ghost use Rattle.mip_words.specs.Addresses.{is_routable};
-ghost use Rattle.mip_ipv6.specs.Packet.{names_no_body};
+ghost use Rattle.std.specs.Prelude.{◌≡◌, ℕ, OnOk, Some};
 ghost use Rattle.mip_rules_correspondent.specs.Questions.{held_of};
 ghost use Rattle.mip_rules_mobile.specs.declared.attachment.Attachment.TheVariants.{Away};
 ghost use Rattle.mip_rules_mobile.specs.Doing.{transmits_from, transmits, solicits_from, solicits};
@@ -12,6 +10,7 @@ ghost use Rattle.mip_afresh_mobile_state.specs.Turns.{Shows, Goes};
 use crate::asking::ask_data;
 use mip_afresh_mobile_rules::{write_data, write_solicitation};
 use mip_afresh_mobile_state::Turn;
+use mip_afresh_rules::{Payload, Routable};
 use mip_rules_mobile::Attachment;
 use mip_words::{Address, Memory, Why};
 use std::alloc::Global;
@@ -21,16 +20,23 @@ fn send_straight(
     alloc: Global,
     turn: &mut Turn,
     careof: Address,
-    to: Address,
-    proto: u8,
-    payload: &[u8],
+    to: Routable,
+    payload: &Payload<'_>,
     held: Option<Address>,
 ) -> Result<(), Memory>
-    ensures { (row : ℕ) (t : Transition) → held ≡ held_of t.known.part.known turn.old.now.0 to → Shows turn.old t
-        → OnOk result (Shows turn.new (transmits_from (Away careof) (Some row) to proto payload.now t)) }
+    ensures { (row : ℕ) (t : Transition) → held ≡ held_of t.known.part.known turn.old.now.0 to.address → Shows turn.old t
+        → OnOk result (Shows turn.new (transmits_from (Away careof) (Some row) to.address payload.now.proto payload.now.bytes.now t)) }
 {
     let home = turn.mobile.home();
-    let packet = write_data(alloc, home, careof, to, held, proto, payload)?;
+    let packet = write_data(
+        alloc,
+        home,
+        careof,
+        to.address,
+        held,
+        payload.proto,
+        payload.bytes,
+    )?;
     turn.send_packet(None, packet)
 }
 
@@ -39,22 +45,18 @@ fn transmit_from(
     turn: &mut Turn,
     standing: Attachment,
     row: Option<u8>,
-    to: Address,
-    proto: u8,
-    payload: &[u8],
+    to: Routable,
+    payload: &Payload<'_>,
     held: Option<Address>,
 ) -> Result<(), Memory>
-    requires routable { IsTrue (is_routable to.0) }
-    requires proto { IsFalse (names_no_body proto) }
-    requires short { length payload.now ≤ 512 }
-    ensures { (t : Transition) → held ≡ held_of t.known.part.known turn.old.now.0 to → Shows turn.old t
-        → OnOk result (Shows turn.new (transmits_from standing row to proto payload.now t)) }
+    ensures { (t : Transition) → held ≡ held_of t.known.part.known turn.old.now.0 to.address → Shows turn.old t
+        → OnOk result (Shows turn.new (transmits_from standing row to.address payload.now.proto payload.now.bytes.now t)) }
 {
     match (standing, row) {
         (Attachment::Away { careof }, Some(_)) => {
-            send_straight(alloc, turn, careof, to, proto, payload, held)
+            send_straight(alloc, turn, careof, to, payload, held)
         }
-        _ => ask_data(alloc, turn, to, proto, payload, held),
+        _ => ask_data(alloc, turn, to, payload, held),
     }
 }
 
@@ -63,20 +65,16 @@ fn transmit_from(
 pub fn transmit(
     alloc: Global,
     turn: &mut Turn,
-    to: Address,
-    proto: u8,
-    payload: &[u8],
+    to: Routable,
+    payload: &Payload<'_>,
     held: Option<Address>,
 ) -> Result<(), Memory>
-    requires routable { IsTrue (is_routable to.0) }
-    requires proto { IsFalse (names_no_body proto) }
-    requires short { length payload.now ≤ 512 }
-    ensures { (t : Transition) → held ≡ held_of t.known.part.known turn.old.now.0 to → Shows turn.old t
-        → OnOk result (Shows turn.new (transmits to proto payload.now t)) }
+    ensures { (t : Transition) → held ≡ held_of t.known.part.known turn.old.now.0 to.address → Shows turn.old t
+        → OnOk result (Shows turn.new (transmits to.address payload.now.proto payload.now.bytes.now t)) }
 {
     let standing = turn.mobile.standing();
-    let row = turn.mobile.bound_row_of(to, turn.now);
-    transmit_from(alloc, turn, standing, row, to, proto, payload, held)
+    let row = turn.mobile.bound_row_of(to.address, turn.now);
+    transmit_from(alloc, turn, standing, row, to, payload, held)
 }
 
 fn solicit_to(alloc: Global, turn: &mut Turn, careof: Address, agent: Address) -> Result<(), Memory>

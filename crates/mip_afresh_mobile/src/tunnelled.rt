@@ -1,67 +1,52 @@
 //! A tunnel is opened (RFC 6275 section 11.3.3, RFC 2473 section 3.3).
 
-ghost use Rattle.std.specs.Prelude.{◌≡◌, ◌<◌, ◌≤◌, ◌-◌, ◌^◌, IsTrue, length, true};
-ghost use Rattle.mip_ipv6.specs.Packet.{packet as tree, is_routable_if_any};
+ghost use Rattle.std.specs.Prelude.{◌≡◌};
+ghost use Rattle.mip_ipv6.specs.Packet.{packet as tree};
 ghost use Rattle.mip_ipv6.specs.Tunnel.{opened};
 ghost use Rattle.mip_reception.specs.Checks.{checked};
 ghost use Rattle.mip_rules_correspondent.specs.Rules.{place_in};
 ghost use Rattle.mip_rules_mobile.specs.ReceivingRules.{after_inner_checks, inner_standing, takes_inner, opens_with, opens_from, opens};
-ghost use Rattle.mip_afresh_mobile.specs.Asking.{GoesBy, GoesFrom};
+ghost use Rattle.mip_afresh_mobile.specs.Asking.{GoesFrom};
 ghost use Rattle.mip_afresh_mobile.specs.Tunnels.{fault_in, unless_fault, exit_why};
 
 use crate::arrival::Arrival;
-use crate::handed::Handed;
 use crate::keeping::handed_at;
 use crate::refusing::refuse;
 use crate::roles::take_role;
 use mip_afresh_mobile_state::Turn;
-use mip_afresh_rules::{check, packet_why};
-use mip_ipv6::{ExitFault, Head, PacketRef, decapsulate};
+use mip_afresh_rules::{Passed, Received, check, packet_why};
+use mip_ipv6::{ExitFault, Head, decapsulate};
 use mip_reception::AddressMatch;
 use mip_words::protocol::{IPV6, MOBILITY_HEADER};
 use mip_words::{Address, Memory, Shield, Why};
 use std::alloc::Global;
 
-/// The Home Address option is routable, where one stands.
-fn has_plain_home(head: &Head) -> bool
-    ensures { result ≡ is_routable_if_any head.now.home }
-{
-    match head.home {
-        Some(home) => home.routable(),
-        None => true,
-    }
-}
-
 /// It is checked as any packet is. What comes out of a tunnel is the mobile's own already, and has no routing header.
 fn take_checked(
     alloc: Global,
     turn: &mut Turn,
-    handed: &Handed,
-    bytes: &[u8],
-    packet: &PacketRef<'_>,
+    arrival: &Arrival<'_>,
+    received: &Received<'_>,
 ) -> Result<(), Memory>
-    requires early { turn.old.now.0 < 2 ^ 62 }
-    requires plain { IsTrue (is_routable_if_any packet.now.head.home) }
-    requires short { length packet.now.body.now ≤ 65535 }
-    requires placed { packet.now.place ≡ place_in bytes.now (tree packet.now) }
-    requires near { packet.now.place < 2 ^ 32 - 1 }
-    requires tunnelled { handed.now.tunnelled ≡ true }
-    ensures { GoesBy handed.now.kept packet.now.head.source packet.now.head.home result
-        (λ t. after_inner_checks handed.now.number handed.now.shield bytes.now (tree packet.now)
-        (checked (inner_standing t.known t.now packet.now.head) (place_in bytes.now (tree packet.now)) (tree packet.now)) t) turn.old turn.new }
+    ensures { GoesFrom arrival.now.numbers arrival.now.accepted.now result
+        (λ t. after_inner_checks arrival.now.number arrival.now.shield received.now.bytes.now (tree received.now.packet)
+        (checked (inner_standing t.known t.now received.now.packet.head) (place_in received.now.bytes.now (tree received.now.packet)) (tree received.now.packet))
+        t) turn.old turn.new }
 {
+    let packet = received.packet;
+    let handed = handed_at(alloc, turn.now, arrival, &packet.head, true)?;
     let standing = AddressMatch {
         is_mine: true,
         takes_route: true,
         holds: handed.kept.holds,
     };
-    match check(packet, standing) {
-        Ok(message) => take_role(alloc, turn, handed, packet, &message),
+    match check(received, standing) {
+        Ok(message) => take_role(alloc, turn, &handed, &Passed { packet, message }),
         Err(refusal) => refuse(
             alloc,
             turn,
             handed.number,
-            bytes,
+            received.bytes,
             packet.head.source,
             refusal,
         ),
@@ -87,49 +72,22 @@ fn fault_of(home: Address, shield: Option<Shield>, head: &Head) -> Option<Why>
     }
 }
 
-/// One that is not dropped so is checked. One whose Home Address option is not routable, which no reader finds, is answered as if memory
-/// had run out.
-fn take_plain(
-    alloc: Global,
-    turn: &mut Turn,
-    arrival: &Arrival<'_>,
-    bytes: &[u8],
-    packet: &PacketRef<'_>,
-) -> Result<(), Memory>
-    requires early { turn.old.now.0 < 2 ^ 62 }
-    requires short { length packet.now.body.now ≤ 65535 }
-    requires placed { packet.now.place ≡ place_in bytes.now (tree packet.now) }
-    requires near { packet.now.place < 2 ^ 32 - 1 }
-    ensures { GoesFrom arrival.now.numbers arrival.now.accepted.now result
-        (λ t. after_inner_checks arrival.now.number arrival.now.shield bytes.now (tree packet.now)
-        (checked (inner_standing t.known t.now packet.now.head) (place_in bytes.now (tree packet.now)) (tree packet.now)) t) turn.old turn.new }
-{
-    if !has_plain_home(&packet.head) {
-        return Err(Memory);
-    }
-    let handed = handed_at(alloc, turn.now, arrival, &packet.head, true)?;
-    take_checked(alloc, turn, &handed, bytes, packet)
-}
-
+/// One that is not dropped so is checked.
 fn take_unless(
     alloc: Global,
     turn: &mut Turn,
     arrival: &Arrival<'_>,
-    bytes: &[u8],
-    packet: &PacketRef<'_>,
+    received: &Received<'_>,
     fault: Option<Why>,
 ) -> Result<(), Memory>
-    requires early { turn.old.now.0 < 2 ^ 62 }
-    requires short { length packet.now.body.now ≤ 65535 }
-    requires placed { packet.now.place ≡ place_in bytes.now (tree packet.now) }
-    requires near { packet.now.place < 2 ^ 32 - 1 }
     ensures { GoesFrom arrival.now.numbers arrival.now.accepted.now result
-        (λ t. unless_fault fault arrival.now.number (after_inner_checks arrival.now.number arrival.now.shield bytes.now (tree packet.now)
-        (checked (inner_standing t.known t.now packet.now.head) (place_in bytes.now (tree packet.now)) (tree packet.now)) t) t) turn.old turn.new }
+        (λ t. unless_fault fault arrival.now.number (after_inner_checks arrival.now.number arrival.now.shield received.now.bytes.now (tree received.now.packet)
+        (checked (inner_standing t.known t.now received.now.packet.head) (place_in received.now.bytes.now (tree received.now.packet)) (tree received.now.packet))
+        t) t) turn.old turn.new }
 {
     match fault {
         Some(why) => turn.drop_packet(arrival.number, why),
-        None => take_plain(alloc, turn, arrival, bytes, packet),
+        None => take_checked(alloc, turn, arrival, received),
     }
 }
 
@@ -138,18 +96,14 @@ fn take_inner(
     alloc: Global,
     turn: &mut Turn,
     arrival: &Arrival<'_>,
-    bytes: &[u8],
-    packet: &PacketRef<'_>,
+    received: &Received<'_>,
 ) -> Result<(), Memory>
-    requires early { turn.old.now.0 < 2 ^ 62 }
-    requires short { length packet.now.body.now ≤ 65535 }
-    requires placed { packet.now.place ≡ place_in bytes.now (tree packet.now) }
-    requires near { packet.now.place < 2 ^ 32 - 1 }
-    ensures { GoesFrom arrival.now.numbers arrival.now.accepted.now result (takes_inner arrival.now.number arrival.now.shield bytes.now (tree packet.now)) turn.old turn.new }
+    ensures { GoesFrom arrival.now.numbers arrival.now.accepted.now result
+        (takes_inner arrival.now.number arrival.now.shield received.now.bytes.now (tree received.now.packet)) turn.old turn.new }
 {
     let home = turn.mobile.home();
-    let fault = fault_of(home, arrival.shield, &packet.head);
-    take_unless(alloc, turn, arrival, bytes, packet, fault)
+    let fault = fault_of(home, arrival.shield, &received.packet.head);
+    take_unless(alloc, turn, arrival, received, fault)
 }
 
 /// Why a tunnel is not opened.
@@ -168,16 +122,15 @@ fn open_at(
     alloc: Global,
     turn: &mut Turn,
     arrival: &Arrival<'_>,
-    packet: &PacketRef<'_>,
+    passed: &Passed<'_>,
     agent: Address,
 ) -> Result<(), Memory>
-    requires early { turn.old.now.0 < 2 ^ 62 }
-    requires short { length packet.now.body.now ≤ 65535 }
     ensures { GoesFrom arrival.now.numbers arrival.now.accepted.now result
-        (opens_with arrival.now.number arrival.now.shield packet.now.body.now (opened agent (tree packet.now))) turn.old turn.new }
+        (opens_with arrival.now.number arrival.now.shield passed.now.packet.body.now (opened agent (tree passed.now.packet))) turn.old turn.new }
 {
-    match decapsulate(packet, agent) {
-        Ok(inner) => take_inner(alloc, turn, arrival, packet.body, &inner),
+    let bytes = passed.packet.body;
+    match decapsulate(&passed.packet, agent) {
+        Ok(packet) => take_inner(alloc, turn, arrival, &Received { bytes, packet }),
         Err(fault) => turn.drop_packet(arrival.number, exit_why(fault)),
     }
 }
@@ -187,15 +140,14 @@ fn open_from(
     alloc: Global,
     turn: &mut Turn,
     arrival: &Arrival<'_>,
-    packet: &PacketRef<'_>,
+    passed: &Passed<'_>,
     agent: Option<Address>,
 ) -> Result<(), Memory>
-    requires early { turn.old.now.0 < 2 ^ 62 }
-    requires short { length packet.now.body.now ≤ 65535 }
-    ensures { GoesFrom arrival.now.numbers arrival.now.accepted.now result (opens_from agent arrival.now.number arrival.now.shield (tree packet.now)) turn.old turn.new }
+    ensures { GoesFrom arrival.now.numbers arrival.now.accepted.now result
+        (opens_from agent arrival.now.number arrival.now.shield (tree passed.now.packet)) turn.old turn.new }
 {
     match agent {
-        Some(agent) => open_at(alloc, turn, arrival, packet, agent),
+        Some(agent) => open_at(alloc, turn, arrival, passed, agent),
         None => turn.drop_packet(arrival.number, Why::Entry),
     }
 }
@@ -205,12 +157,10 @@ pub fn open(
     alloc: Global,
     turn: &mut Turn,
     arrival: &Arrival<'_>,
-    packet: &PacketRef<'_>,
+    passed: &Passed<'_>,
 ) -> Result<(), Memory>
-    requires early { turn.old.now.0 < 2 ^ 62 }
-    requires short { length packet.now.body.now ≤ 65535 }
-    ensures { GoesFrom arrival.now.numbers arrival.now.accepted.now result (opens arrival.now.number arrival.now.shield (tree packet.now)) turn.old turn.new }
+    ensures { GoesFrom arrival.now.numbers arrival.now.accepted.now result (opens arrival.now.number arrival.now.shield (tree passed.now.packet)) turn.old turn.new }
 {
     let agent = turn.mobile.agent(turn.now);
-    open_from(alloc, turn, arrival, packet, agent)
+    open_from(alloc, turn, arrival, passed, agent)
 }

@@ -1,4 +1,4 @@
-ghost use Rattle.std.specs.Prelude.{◌≡◌, ◌<◌, ◌-◌, ◌^◌, IsTrue, Ok};
+ghost use Rattle.std.specs.Prelude.{◌≡◌, ◌<◌, ◌≤◌, ◌-◌, ◌^◌, IsTrue, Ok, length};
 ghost use Rattle.mip_ipv6.specs.Packet.{packet as tree, is_routable_if_any};
 ghost use Rattle.mip_ipv6.specs.Reading.{packet_of};
 ghost use Rattle.mip_rules_correspondent.specs.Rules.{place_in};
@@ -14,4 +14,5 @@ pub struct Received<'a> {
     pub ghost placed: { packet.place ≡ place_in bytes.now (tree packet) },
     pub ghost near: { packet.place < 2 ^ 32 - 1 },
     pub ghost plain: { IsTrue (is_routable_if_any packet.head.home) },
+    pub ghost short: { length packet.body.now ≤ 65535 },
 }

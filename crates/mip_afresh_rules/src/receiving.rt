@@ -94,7 +94,7 @@ fn take_packet(
         (receives who.now.me.now who.now.number received.now.bytes.now (packet_of received.now.bytes.now)) answers.old answers.new }
 {
     let packet = received.packet;
-    match check(&packet, standing(who, &packet.head)) {
+    match check(received, standing(who, &packet.head)) {
         Ok(message) => answer_role(alloc, answers, who, &Passed { packet, message }),
         Err(refusal) => refuse(
             alloc,

@@ -7,9 +7,9 @@ pub returns : goal.returns
 unfolding transmits
 returns c = λ t held shows.
     let turn = c.args.turn.now in
-    let to = c.args.to in
-    let proto = c.args.proto in
-    let payload = c.args.payload.now in
+    let to = c.args.to.address in
+    let proto = c.args.payload.now.proto in
+    let payload = c.args.payload.now.bytes.now in
     let row = bound_row_of t.known t.now to in
     let result = c.transmit_from.result in
     let new = c.transmit_from.new.turn in

@@ -8,6 +8,6 @@ pub returns : goal.returns
 unfolding opens
 returns c = λ t are shows.
     let arrival = c.args.arrival.now in
-    asked c.open_from.result c.open_from.new.turn (λ agent. opens_from agent arrival.number arrival.shield (tree c.args.packet.now) t) c.agent-agent.result (agent_of t.known t.now)
+    asked c.open_from.result c.open_from.new.turn (λ agent. opens_from agent arrival.number arrival.shield (tree c.args.passed.now.packet) t) c.agent-agent.result (agent_of t.known t.now)
     (found c.args.turn.now t (λ k now. agent_of k now) c.agent-agent.result c.agent-agent.ensures shows)
     (c.open_from.ensures t are shows)

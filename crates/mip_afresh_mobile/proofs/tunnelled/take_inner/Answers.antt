@@ -17,8 +17,8 @@ unfolding takes_inner
 returns c = λ t are shows.
     let number = c.args.arrival.now.number in
     let shield = c.args.arrival.now.shield in
-    let bytes = c.args.bytes.now in
-    let p = tree c.args.packet.now in
+    let bytes = c.args.received.now.bytes.now in
+    let p = tree c.args.received.now.packet in
     let head = p.head in
     let home = home_of t.known in
     let rest = after_inner_checks number shield bytes p (checked (inner_standing t.known t.now head) (place_in bytes p) p) t in

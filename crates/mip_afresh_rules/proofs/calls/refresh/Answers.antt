@@ -10,7 +10,7 @@ use Rattle.mip_afresh_rules.proofs.calls.refresh.Goals as goal
 pub returns : goal.returns
 unfolding refreshes
 returns c = λ now k held.
-    let home = c.args.home in
+    let home = c.args.home.address in
     let none = c.in_ok-answers.answers in
     ended c.args.me.now k now (Refresh home) none c.ask_refresh.new.answers refl c.in_ok-answers.ensures
     (λ t same begins.

@@ -15,10 +15,11 @@ pub returns : goal.returns
 unfolding transmits
 returns c = λ now k held.
     let none = c.in_ok-answers.answers in
+    let to = c.args.to.address in
     let payload = c.args.payload.now in
-    let sent = λ (o : Option Address). data_sent c.args.me.now c.args.to c.args.proto payload o in
-    ended c.args.me.now k now (Send c.args.to c.args.proto payload) none c.send_packet.new.answers refl c.in_ok-answers.ensures
+    let sent = λ (o : Option Address). data_sent c.args.me.now to payload.proto payload.bytes.now o in
+    ended c.args.me.now k now (Send to payload.proto payload.bytes.now) none c.send_packet.new.answers refl c.in_ok-answers.ensures
     (λ t same begins.
     subst (λ (packet : List ℕ). Shown now c.send_packet.new.answers (noted (Sends packet) t))
-    (c.in_ok-packet.ensures.bytes ∙ ap (λ (head : Head). data_packet head payload) c.data_head-head.ensures.head ∙ ap sent (held ∙ held-here k now c.args.to none t same begins))
+    (c.in_ok-packet.ensures.bytes ∙ ap (λ (head : Head). data_packet head payload.bytes.now) c.data_head-head.ensures.head ∙ ap sent (held ∙ held-here k now to none t same begins))
     (c.in_ok-send_packet.ensures now t begins))

@@ -4,7 +4,7 @@ use Rattle.mip_provenance.specs.Lists.{until}
 use Rattle.mip_provenance.specs.Firsts.{is_post}
 use Rattle.mip_afresh_marks.specs.Sighting.{sight_seen, token_numbered, sights_in}
 use Rattle.mip_afresh_marks.specs.Searches.{front_in}
-use Rattle.mip_afresh_marks.proofs.sights.Sights.place_of.Given as goal
+use Rattle.mip_afresh_marks.proofs.sights.Sights.before.Given as goal
 
 abbrev pub invariant-loop-place : goal.invariant-loop-place
 invariant-loop-place l =
