@@ -7,7 +7,7 @@ use Rattle.mip_entries.specs.declared.answer.Answer.{Answer}
 use Rattle.mip_rules_mobile.specs.Calls as mobiles
 use Rattle.mip_rules_mobile.specs.MovingRules.{address_under}
 use Rattle.mip_rules_mobile.specs.Steps.{answers_of}
-use Rattle.mip_history.specs.Knowing.{around_in}
+use Rattle.mip_history.specs.Knowing.{now_in, around_in}
 use Rattle.mip_afresh_mobile.specs.Nodes.{NodeSeen, transition_at, after_call}
 use Rattle.mip_afresh_nodes.specs.MobileCalls.{call_of_mobile}
 use Rattle.mip_afresh_nodes.proofs.mobiles.mobile_answers.Goals as goal
