@@ -1,6 +1,6 @@
 -- What a home agent or a mobile does that was taken out of a run, and put back, is what it does in the run.
-use Rattle.std.proofs.Common.{◌≡◌, ℕ, zero, suc, ◌<◌, List, [], ◌∷◌, length, refl, sym, ap, ◌∙◌, subst, get_or-set_same}
-use Rattle.std.specs.Prelude.{Option, Some, None, unwrap_or, slice_set}
+use Rattle.std.proofs.Common.{◌≡◌, ℕ, zero, suc, ◌<◌, List, [], ◌∷◌, true, false, length, refl, sym, ap, ◌∙◌, subst, get_or-set_same}
+use Rattle.std.specs.Prelude.{Option, Some, None, unwrap_or, slice_get, slice_set, slice_index_or}
 use Rattle.mip_words.specs.declared.address.Address.{Address}
 use Rattle.mip_nonce.specs.Secrets.{Life}
 use Rattle.mip_outside.specs.Places.{Around}
@@ -17,7 +17,7 @@ use Rattle.mip_rules_mobile.specs.Questions as mobile_questions
 use Rattle.mip_rules_mobile.specs.Transitions as mobile_transitions
 use Rattle.mip_rules_mobile.specs.Doing as mobile_doing
 use Rattle.mip_history.specs.Setup.{Setup}
-use Rattle.mip_history.specs.Runs.{Run, with_agent_past, with_mobile_past}
+use Rattle.mip_history.specs.Runs.{Run, with_agent_past, with_mobile_past, agent_past_at, mobile_past_at}
 use Rattle.mip_history.specs.RunsLaws.{IsRun}
 use Rattle.mip_history.specs.Calls.{Call, for_agent, for_mobile}
 use Rattle.mip_history.specs.Knowing.{link_or_first, now_in, secrets_in, stands_on, around_in, agent_of, agent_known_in, mobile_known_in}
@@ -34,7 +34,7 @@ use Rattle.mip_afresh_nodes.specs.declared.mobile_call.MobileCall.TheVariants as
 use Rattle.mip_afresh_nodes.specs.AgentCalls.{asked_of_agent, call_of_agent}
 use Rattle.mip_afresh_nodes.specs.MobileCalls.{asked_of_mobile, call_of_mobile}
 use Rattle.mip_afresh.specs.Tellings.{TellingSeen, with_run}
-use Rattle.mip_afresh.specs.Roles.{IsAgent, IsMobile, IsTaken}
+use Rattle.mip_afresh.specs.Roles.{agent_host, mobile_host, IsAgent, IsMobile, IsAgentOut, IsMobileOut, IsTaken}
 
 pub set_again : {X : Type 0} (xs : List X) (n : ℕ) (x y : X) → slice_set (slice_set xs n x) n y ≡ slice_set xs n y
 set_again [] n x y = refl

@@ -1,10 +1,11 @@
 -- What the correspondent part of a mobile keeps and shows, by what the mobile accepted in its present life.
-use Rattle.std.proofs.Common.{◌≡◌, ℕ, ◌<◌, List, [], length, sym, ap, ◌∙◌, subst, get_or-set_same}
-use Rattle.std.specs.Prelude.{Option, map}
+use Rattle.std.proofs.Common.{◌≡◌, ℕ, ◌<◌, ◌≤◌, ◌^◌, List, [], ◌∷◌, length, refl, sym, ap, ◌∙◌, subst, get_or-set_same}
+use Rattle.std.specs.Prelude.{Option, Some, None, map, option_map}
 use Rattle.mip_words.specs.declared.address.Address.{Address}
 use Rattle.mip_nonce.specs.Secrets.{Life}
 use Rattle.mip_binding.specs.Acceptance.{Acceptance}
 use Rattle.mip_binding.specs.Held.{held}
+use Rattle.mip_bcache.specs.Seen.{CacheSeen}
 use Rattle.mip_entries.specs.Stamped.{Stamped}
 use Rattle.mip_rules_correspondent.specs.Seen.{CorrespondentSeen}
 use Rattle.mip_rules_correspondent.specs.declared.known.Known.{Known}

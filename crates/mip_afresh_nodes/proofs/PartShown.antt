@@ -8,8 +8,11 @@ use Rattle.mip_binding.specs.Rows.{BindingRow}
 use Rattle.mip_binding.specs.Homes.{shown_rows}
 use Rattle.mip_bcache.specs.Seen.{seen_row, rows_at}
 use Rattle.mip_entries.specs.declared.entry.Entry.{Entry}
+use Rattle.mip_entries.specs.Stamped.{Stamped}
+use Rattle.mip_rules_correspondent.specs.Steps.{Step}
 use Rattle.mip_rules_correspondent.specs.Seen.{CorrespondentSeen}
 use Rattle.mip_rules_mobile.specs.Questions.{part_room}
+use Rattle.mip_rules_mobile.specs.PartLaws.{PartLife}
 use Rattle.mip_rules_mobile.proofs.PartLives.{part_is}
 use Rattle.mip_history.specs.Setup.{Setup, Host, Kind, is_mobile_at, is_mobile_host}
 use Rattle.mip_history.specs.Setup.Kind.{Correspondent, Agent, Mobile}
@@ -17,7 +20,7 @@ use Rattle.mip_history.specs.Runs.{Run, notes, mobile_past_at}
 use Rattle.mip_history.specs.RunsLaws.{IsRun, IsPast}
 use Rattle.mip_history.specs.Knowing.{now_in, secrets_in, mobile_known_in}
 use Rattle.mip_history.specs.KnowingLaws.{part_in}
-use Rattle.mip_history.specs.Nodes.{rows_shown, shown}
+use Rattle.mip_history.specs.Nodes.{row_entry, rows_shown, shown}
 use Rattle.mip_history.specs.Bound.{accepted_by}
 use Rattle.mip_history.proofs.ShownRows.{past_rows}
 use Rattle.mip_afresh_nodes.specs.Rows.{entry_of}

@@ -1,5 +1,5 @@
 -- A delivery leads on from a run that was reached.
-use Rattle.std.proofs.Common.{ℕ, zero, suc, [], ◌∷◌, ◌++◌, false, sym, ap, ◌∙◌, subst}
+use Rattle.std.proofs.Common.{◌≡◌, ℕ, zero, suc, [], ◌∷◌, ◌++◌, false, sym, ap, ◌∙◌, subst}
 use Rattle.std.specs.Prelude.{Option, Some, None}
 use Rattle.std.proofs.lemmas.List.Sums.{fold-append}
 use Rattle.mip_schedule.specs.declared.event.Event.{Event}

@@ -1,6 +1,7 @@
 -- A node begins its next life.
-use Rattle.std.proofs.Common.{◌≡◌, ℕ, ◌<◌, List, [], true, length, refl, sym, ap, ◌∙◌, get_or-set_same}
-use Rattle.std.specs.Prelude.{Option, Some, None, slice_get}
+use Rattle.std.proofs.Common.{◌≡◌, ℕ, ◌<◌, List, [], Bool, true, false, length, refl, sym, ap, ◌∙◌, subst, get_or-set_same}
+use Rattle.std.specs.Prelude.{Option, Some, None, slice_get, slice_set, slice_index_or}
+use Rattle.mip_words.specs.declared.address.Address.{Address}
 use Rattle.mip_entries.specs.declared.entry.Entry.TheVariants.{Restarted}
 use Rattle.mip_entries.specs.Completed.{node_id}
 use Rattle.mip_entries.specs.Stamped.{Stamped}
@@ -9,7 +10,7 @@ use Rattle.mip_rules_agent.specs.Questions as agent_questions
 use Rattle.mip_rules_agent.specs.Questions.{rows_at}
 use Rattle.mip_history.specs.Setup.{Setup, Host, Kind, is_mobile_at, is_mobile_host}
 use Rattle.mip_history.specs.Setup.Kind.{Correspondent, Agent as OfAgent, Mobile as OfMobile}
-use Rattle.mip_history.specs.Runs.{Run, note, with_agent_past}
+use Rattle.mip_history.specs.Runs.{Run, note, with_past, with_agent_past, agent_past_at}
 use Rattle.mip_history.specs.Questions.{life_in}
 use Rattle.mip_history.specs.Calls.{Restart}
 use Rattle.mip_history.specs.Knowing.{now_in, secrets_in}
@@ -17,7 +18,7 @@ use Rattle.mip_history.specs.Nodes.{acts}
 use Rattle.mip_history.specs.Restarting.{homes_left, reborn_by_kind, reborn_by_host, restarted}
 use Rattle.mip_afresh_agent.specs.Agents as of_agent
 use Rattle.mip_afresh_agent.specs.Agents.{AgentSeen}
-use Rattle.mip_afresh.specs.Roles.{IsAgent}
+use Rattle.mip_afresh.specs.Roles.{agent_host, IsAgent}
 use Rattle.mip_afresh_nodes.proofs.CallLaws.{set_again}
 
 pub mobile_reborn : (s : Setup) (run : Run) (n : ℕ) → is_mobile_at s n ≡ true

@@ -1,4 +1,4 @@
-use Rattle.std.proofs.Common.{◌≡◌, refl, ap, ◌∙◌, subst}
+use Rattle.std.proofs.Common.{◌≡◌, refl, sym, ap, ◌∙◌, subst}
 use Rattle.std.specs.Prelude.{OnOk, Some, unwrap_or}
 use Rattle.mip_words.specs.declared.address.Address.{Address}
 use Rattle.mip_history.specs.Runs.{Run, with_mobile_past}

@@ -1,5 +1,5 @@
-use Rattle.std.proofs.Common.{◌≡◌, map, refl, ap, ◌∙◌, subst}
-use Rattle.std.specs.Prelude.{OnOk, unwrap_or}
+use Rattle.std.proofs.Common.{◌≡◌, List, map, refl, sym, ap, ◌∙◌, subst}
+use Rattle.std.specs.Prelude.{OnOk, unwrap_or, Option}
 use Rattle.mip_words.specs.declared.address.Address.{Address}
 use Rattle.mip_rules_mobile.specs.Calls as mobiles
 use Rattle.mip_history.specs.Calls as asked_for

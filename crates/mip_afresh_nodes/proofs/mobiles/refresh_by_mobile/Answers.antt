@@ -1,11 +1,12 @@
-use Rattle.std.proofs.Common.{◌≡◌, refl, ap, ◌∙◌, subst}
-use Rattle.std.specs.Prelude.{OnOk, unwrap_or}
+use Rattle.std.proofs.Common.{◌≡◌, List, map, refl, sym, ap, ◌∙◌, subst}
+use Rattle.std.specs.Prelude.{OnOk, unwrap_or, Option}
 use Rattle.mip_words.specs.declared.address.Address.{Address}
 use Rattle.mip_rules_mobile.specs.Calls as mobiles
 use Rattle.mip_history.specs.Calls as asked_for
 use Rattle.mip_history.specs.Runs.{Run, with_mobile_past}
 use Rattle.mip_history.specs.Knowing.{stands_on}
 use Rattle.mip_history.specs.Nodes.{answered}
+use Rattle.mip_afresh_bindings.specs.Accepted.{acceptance_seen}
 use Rattle.mip_afresh.specs.Tellings.{with_run}
 use Rattle.mip_afresh_nodes.proofs.CallLaws.{mobile_done}
 use Rattle.mip_afresh_nodes.proofs.PartLaws.{part_holds}

@@ -1,5 +1,6 @@
-use Rattle.std.proofs.Common.{map, ap, ◌∙◌}
+use Rattle.std.proofs.Common.{◌≡◌, List, map, sym, ap, ◌∙◌}
 use Rattle.std.proofs.lemmas.Result.{IfOk-weaker}
+use Rattle.mip_history.specs.Runs.{notes}
 use Rattle.mip_afresh_bindings.specs.Accepted.{acceptance_seen}
 use Rattle.mip_afresh_bindings.specs.Showing.{row_seen}
 use Rattle.mip_afresh_nodes.proofs.PartShown.{part_shown}

@@ -1,10 +1,11 @@
-use Rattle.std.proofs.Common.{◌≡◌, ℕ, zero, suc, ◌+◌, ◌-◌, false, refl, sym, ap, ◌∙◌, subst, arith}
+use Rattle.std.proofs.Common.{◌≡◌, ℕ, zero, suc, ◌+◌, ◌-◌, ◌<◌, false, true, refl, sym, ap, ◌∙◌, subst, arith}
 use Rattle.std.specs.Prelude.{Option, Some, None, length, option_map}
 use Rattle.mip_words.specs.declared.moment.Moment.{Moment}
 use Rattle.mip_history.specs.Setup.{Setup}
-use Rattle.mip_history.specs.Waiting.{due_of, earliest, works, works_until}
-use Rattle.mip_afresh.specs.Tellings.{TellingSeen}
-use Rattle.mip_afresh_nodes.specs.Waits.{due_by, waiting}
+use Rattle.mip_history.specs.Runs.{Run}
+use Rattle.mip_history.specs.Waiting.{Waiting, due_of, earliest, works, works_until}
+use Rattle.mip_afresh.specs.Tellings.{TellingSeen, with_run}
+use Rattle.mip_afresh_nodes.specs.Waits.{due_by, waiting, HasCome}
 use Rattle.mip_afresh_nodes.proofs.WaitLaws.{wait_rests, wait_goes, wait_ends, worked, has_come}
 use Rattle.mip_afresh_nodes.proofs.waiting.work_until.Goals as goal
 
