@@ -15,8 +15,10 @@ use Rattle.mip_afresh_nodes.proofs.mobiles.hand_to_mobile.Goals as goal
 pub take-requires : goal.take-requires
 take-requires c =
     let t = c.args.telling.now in
-    part_accepted t.setup t.run c.args.node.0 c.args.mobile c.requires.out.is c.requires.out.inside c.requires.run c.now.result.0 c.now.ensures c.deref.result.now
-    (ap (map acceptance_seen) c.deref.ensures.value ∙ c.in_ok-accepted.ensures)
+    record {
+      accepted = part_accepted t.setup t.run c.args.node.0 c.args.mobile c.requires.out.is c.requires.out.inside c.requires.run c.now.result.0 c.now.ensures c.deref.result.now
+        (ap (map acceptance_seen) c.deref.ensures.value ∙ c.in_ok-accepted.ensures);
+    }
 
 pub returns : goal.returns
 returns c =
