@@ -1,14 +1,10 @@
-ghost use Rattle.std.specs.Prelude.{◌≤◌, length};
-ghost use Rattle.mip_symbols.specs.Places.{members};
-ghost use Rattle.mip_symbols.specs.declared.places.Sort.TheVariants as sorts;
-
 use mip_past::Past;
 use mip_past_led::Led;
 use mip_schedule::Event;
 use mip_symbols::Declaration;
 
-/// A place of the history of a schedule: its version, the declarations that name the nodes, which are few, its events, what lies before
-/// the place, and the run that is led along to there.
+/// A place of the history of a schedule: its version, the declarations that name the nodes, its events, what lies before the place, and
+/// the run that is led along to there.
 #[derive(Clone, Copy)]
 pub struct Scene<'a> {
     pub version: u8,
@@ -16,5 +12,4 @@ pub struct Scene<'a> {
     pub events: &'a [Event],
     pub past: Past<'a>,
     pub led: &'a Led,
-    pub ghost few: { length (members sorts.Node declarations.now) ≤ 32 },
 }

@@ -2,6 +2,7 @@
 
 ghost use Rattle.std.specs.Prelude.{◌≡◌, ◌++◌, ◌∷◌, [], IfOk, OnOk, codes, decimal};
 ghost use Rattle.mip_lines.specs.Lines.{line_text};
+ghost use Rattle.mip_symbols.specs.Places.{AreFew};
 ghost use Rattle.mip_past_text.specs.Subjects.{last_named};
 ghost use Rattle.mip_past_text.specs.Fronts.{front_of};
 ghost use Rattle.mip_past_text.specs.declared.topic.Topic.TheVariants as topics;
@@ -245,6 +246,7 @@ fn put_known(
     scene: Scene<'_>,
     node: Option<NodeId>,
 ) -> Result<(), Memory>
+    requires { AreFew scene.declarations.now }
     ensures { OnOk result (out.new ≡ out.old ++ known_of scene.entry.declarations.now (front_of scene.entry) node) }
 {
     match node {
@@ -269,6 +271,7 @@ fn put_moment(alloc: Global, out: &mut Bytes, moment: Moment) -> Result<(), Memo
 /// order of declaration.
 #[tactic(auto, unfolding(crate::specs::Text::known_text))]
 pub fn known(alloc: Global, scene: Scene<'_>, node: Option<NodeId>) -> Result<Bytes, Memory>
+    requires { AreFew scene.declarations.now }
     ensures { IfOk result (λ text. text ≡ known_text scene.entry.declarations.now (front_of scene.entry) node) }
 {
     let mut text = Bytes::new(alloc);

@@ -17,7 +17,7 @@ take-requires c =
     let t = c.args.telling.now in
     record {
       accepted = part_accepted t.setup t.run c.args.node.0 c.args.mobile c.requires.out.is c.requires.out.inside c.requires.run c.now.result.0 c.now.ensures c.deref.result.now
-        (ap (map acceptance_seen) c.deref.ensures.value ∙ c.in_ok-accepted.ensures);
+          (ap (map acceptance_seen) c.deref.ensures.value ∙ c.in_ok-accepted.ensures);
     }
 
 pub returns : goal.returns

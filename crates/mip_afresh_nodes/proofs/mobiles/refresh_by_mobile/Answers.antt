@@ -15,7 +15,7 @@ use Rattle.mip_afresh_nodes.proofs.mobiles.refresh_by_mobile.Goals as goal
 pub refresh-requires : goal.refresh-requires
 refresh-requires c =
     let t = c.args.telling.now in
-    record { held = part_holds t.setup t.run c.args.node.0 c.args.mobile c.requires.out.is c.requires.out.inside c.requires.run c.now.result.0 c.now.ensures c.args.home.address c.in_ok-held.held c.in_ok-held.ensures; }
+    record { held = part_holds t.setup t.run c.args.node.0 c.args.mobile c.requires.out.is c.requires.out.inside c.requires.run c.now.result.0 c.now.ensures c.args.home.address c.in_ok-held.held c.in_ok-held.ensures }
 
 pub returns : goal.returns
 returns c =
