@@ -41,7 +41,7 @@ fn meet_from(
 pub fn audit_trace(alloc: Global, schedule: &Schedule, trace: &[u8]) -> Result<(), AuditFault>
     ensures { Judges result (difference trace.now (trace_text (Some schedule.now.declarations) (permitted (content schedule.now)))) }
 {
-    let names = NameTable::of(alloc, schedule)?;
+    let names = NameTable::of(alloc, &schedule.declarations)?;
     let mut line = Bytes::with_capacity(alloc, LINE)?;
     let mut comparison = Comparison::new(trace);
     let mut run = Run::open(alloc, schedule)?;

@@ -54,11 +54,11 @@ lines_exact h [] below = refl
 lines_exact h (word ∷ words) below = λ i. line_exact h word below i ∷ lines_exact h words below i
 
 -- the summary, as it is written line by line
-pub summary_is : (es : List Event) (h : List Entry) (c : Counts) → c ≡ counts_of h → c.entries ≢ 2 ^ 64 - 1
-    → (line_text (count_line (codes "events") (length es)) ++ line_text (count_line (codes "entries") c.entries)) ++ lines_text (map (kept_line c) counted_words) ≡ summary_text es h
+pub summary_is : (events : ℕ) (h : List Entry) (c : Counts) → c ≡ counts_of h → c.entries ≢ 2 ^ 64 - 1
+    → (line_text (count_line (codes "events") events) ++ line_text (count_line (codes "entries") c.entries)) ++ lines_text (map (kept_line c) counted_words) ≡ summary_text events h
 unfolding counts_of summary_text
-summary_is es h c are below =
-    let first : List ℕ = line_text (count_line (codes "events") (length es)) in
+summary_is events h c are below =
+    let first : List ℕ = line_text (count_line (codes "events") events) in
     let kept : c.entries ≡ kept_count (length h) = ap (λ (x : Counts). x.entries) are in
     let few : kept_count (length h) ≢ 2 ^ 64 - 1 = λ e. below (kept ∙ e) in
     let all : c.entries ≡ length h = kept ∙ kept_exact (length h) (length h) (omega arith) few in

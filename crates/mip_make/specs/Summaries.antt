@@ -4,7 +4,6 @@ use Rattle.std.specs.List.{count_by}
 use Rattle.mip_entries.specs.declared.entry.Entry.{Entry}
 use Rattle.mip_entries.specs.declared.entry.Entry.TheVariants as entries
 use Rattle.mip_lines.specs.Lines.{lines_text}
-use Rattle.mip_schedule.specs.declared.event.Event.{Event}
 use Rattle.mip_make.specs.declared.word.Word.{Word}
 use Rattle.mip_make.specs.declared.word.Word.TheVariants.{Sent, Handed, Up, Accepted, Denied, Dropped, Forged}
 
@@ -40,9 +39,9 @@ word_line h word = count_line (word_text word) (count_by (is_of word) h)
 abbrev pub counted_words : List Word
 counted_words = Sent ∷ Handed ∷ Up ∷ Accepted ∷ Denied ∷ Dropped ∷ Forged ∷ []
 
-abbrev pub summary_rows : List Event → List Entry → List (List (List ℕ))
-summary_rows es h = count_line (codes "events") (length es) ∷ count_line (codes "entries") (length h) ∷ map (word_line h) counted_words
+abbrev pub summary_rows : ℕ → List Entry → List (List (List ℕ))
+summary_rows events h = count_line (codes "events") events ∷ count_line (codes "entries") (length h) ∷ map (word_line h) counted_words
 
--- the text of the summary
-unfoldable pub summary_text : List Event → List Entry → List ℕ
-summary_text es h = lines_text (summary_rows es h)
+-- the text of the summary of a run of so many events
+unfoldable pub summary_text : ℕ → List Entry → List ℕ
+summary_text events h = lines_text (summary_rows events h)

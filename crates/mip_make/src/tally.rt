@@ -9,7 +9,6 @@ use itoa::Buffer;
 use mip_entries::History;
 use mip_ghost_log::GhostLog;
 use mip_lines::put_line;
-use mip_schedule::Schedule;
 use mip_words::{Bytes, Memory};
 use std::alloc::Global;
 use std::marker::Model;
@@ -54,18 +53,18 @@ impl Tally {
         self.told = self.told.with(piece);
     }
 
-    /// The summary of a schedule's run: the events, the entries that were counted, and those of seven words.
+    /// The summary of a run of so many events: their number, that of the entries that were counted, and those of seven words.
     ///
     /// Of 2^64 - 1 entries or more there is none, and `Err(Memory)` is the answer.
     #[tactic(auto, unfolding(crate::specs::Summaries::summary_text))]
-    pub fn text(&self, alloc: Global, schedule: &Schedule) -> Result<Bytes, Memory>
-        ensures { IfOk result (λ b. b ≡ summary_text schedule.now.events self.now) }
+    pub fn text(&self, alloc: Global, events: usize) -> Result<Bytes, Memory>
+        ensures { IfOk result (λ b. b ≡ summary_text events self.now) }
     {
         if self.counts.entries == u64::MAX {
             return Err(Memory);
         }
         let mut out = Bytes::new(alloc);
-        put_count(&mut out, b"events", schedule.events.len() as u64)?;
+        put_count(&mut out, b"events", events as u64)?;
         put_count(&mut out, b"entries", self.counts.entries)?;
         put_words(&mut out, &self.counts, &WORDS)?;
         Ok(out)

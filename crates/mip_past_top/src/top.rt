@@ -56,7 +56,7 @@ fn answer_input<S: Source, K: Sink>(alloc: Global, ask: Ask, source: &mut S, sin
         Err(ReadFault::Memory) => return Status::MEMORY,
     };
     match answer(alloc, ask, bytes.as_slice()) {
-        Ok(reply) => tell_reply(alloc, sink, &reply),
+        Ok(reply) => tell_reply(alloc, sink, reply),
         Err(Memory) => Status::MEMORY,
     }
 }

@@ -112,7 +112,7 @@ form_answer form bytes = if nat_lt 16777216 (length bytes) then long_answer else
 -- the schedule of a seed and a count, or the summary of its permitted history
 abbrev pub product_text : Product → Content → List ℕ
 product_text products.Schedule c = spelling c
-product_text products.Summary c = summary_text c.events (permitted c)
+product_text products.Summary c = summary_text (length c.events) (permitted c)
 
 unfoldable pub made_answer : Product → Draft → Answer
 made_answer product draft = record { status = 0; text = product_text product (made draft.seed draft.count) }

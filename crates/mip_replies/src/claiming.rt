@@ -1,6 +1,6 @@
 //! Writing what the claims of a schedule's run are on a link.
 
-ghost use Rattle.std.specs.Prelude.{◌≡◌, ℕ, ◌<◌, ◌≤◌, [], length, take, OnOk, OnErr, IsErrOf};
+ghost use Rattle.std.specs.Prelude.{◌≡◌, ℕ, ◌<◌, ◌≤◌, [], length, take, IfOk, OnOk, OnErr, IsErrOf};
 ghost use Rattle.std.specs.Io.KnownBytes.{append_known};
 ghost use Rattle.mip_outside.specs.Cause.{Rose};
 ghost use Rattle.mip_schedule.specs.Schedules.{content};
@@ -13,7 +13,7 @@ use mip_outside::{PutFault, Sink};
 use mip_printing::write_text;
 use mip_proxynd::{AddressClaims, tell_end, tell_entries};
 use mip_replay::Run;
-use mip_schedule::Schedule;
+use mip_schedule::{Declarations, Schedule};
 use mip_symbols::Declaration;
 use mip_words::{Address, Bytes};
 use std::alloc::Global;
@@ -23,52 +23,53 @@ use std::alloc::Global;
 pub fn write_claims<K: Sink>(
     alloc: Global,
     sink: &mut K,
-    schedule: &Schedule,
+    schedule: Schedule,
     ask: Option<Address>,
 ) -> Result<(), PutFault>
-    ensures ok { OnOk result (K.held sink.new ≡ append_known (K.held sink.old) (claims_of ask (content schedule.now))) }
-    ensures front { OnErr result ((count : ℕ) × (K.held sink.new ≡ append_known (K.held sink.old) (take count (claims_of ask (content schedule.now))))) }
-    ensures part { IsErrOf result PutFault.Failed → ((count : ℕ) × (count < length (claims_of ask (content schedule.now)))
-        × (K.held sink.new ≡ append_known (K.held sink.old) (take count (claims_of ask (content schedule.now))))) }
+    ensures ok { OnOk result (K.held sink.new ≡ append_known (K.held sink.old) (claims_of ask (content schedule))) }
+    ensures front { OnErr result ((count : ℕ) × (K.held sink.new ≡ append_known (K.held sink.old) (take count (claims_of ask (content schedule))))) }
+    ensures part { IsErrOf result PutFault.Failed → ((count : ℕ) × (count < length (claims_of ask (content schedule)))
+        × (K.held sink.new ≡ append_known (K.held sink.old) (take count (claims_of ask (content schedule))))) }
     ensures no_fewer { K.faults sink.old ≤ K.faults sink.new }
     ensures cause { IsErrOf result PutFault.Failed → Rose (K.faults sink.old) (K.faults sink.new) }
 {
     let mut claims = AddressClaims::new(alloc);
-    write_adverts(alloc, sink, schedule, &mut claims)?;
-    write_end(alloc, sink, schedule.declarations.as_slice(), &claims, ask)
+    let declarations = write_adverts(alloc, sink, schedule, &mut claims)?;
+    write_end(alloc, sink, declarations.as_slice(), &claims, ask)
 }
 
-/// Writes what the claims of a schedule's run advertise, and keeps those that stand at its end.
+/// Writes what the claims of a schedule's run advertise, keeps those that stand at its end, and gives what the schedule declares.
 fn write_adverts<K: Sink>(
     alloc: Global,
     sink: &mut K,
-    schedule: &Schedule,
+    schedule: Schedule,
     claims: &mut AddressClaims,
-) -> Result<(), PutFault>
+) -> Result<Declarations, PutFault>
     requires { claims.old ≡ [] }
-    ensures ok { OnOk result (K.held sink.new ≡ append_known (K.held sink.old) (adverts schedule.now.declarations (permitted (content schedule.now)))) }
-    ensures stands { OnOk result (claims.new ≡ rows_in [] (permitted (content schedule.now))) }
-    ensures front { OnErr result ((count : ℕ) × (count ≤ length (adverts schedule.now.declarations (permitted (content schedule.now))))
-        × (K.held sink.new ≡ append_known (K.held sink.old) (take count (adverts schedule.now.declarations (permitted (content schedule.now)))))) }
-    ensures part { IsErrOf result PutFault.Failed → ((count : ℕ) × (count < length (adverts schedule.now.declarations (permitted (content schedule.now))))
-        × (K.held sink.new ≡ append_known (K.held sink.old) (take count (adverts schedule.now.declarations (permitted (content schedule.now)))))) }
+    ensures declared { IfOk result (λ ds. ds ≡ schedule.declarations) }
+    ensures ok { OnOk result (K.held sink.new ≡ append_known (K.held sink.old) (adverts schedule.declarations (permitted (content schedule)))) }
+    ensures stands { OnOk result (claims.new ≡ rows_in [] (permitted (content schedule))) }
+    ensures front { OnErr result ((count : ℕ) × (count ≤ length (adverts schedule.declarations (permitted (content schedule))))
+        × (K.held sink.new ≡ append_known (K.held sink.old) (take count (adverts schedule.declarations (permitted (content schedule)))))) }
+    ensures part { IsErrOf result PutFault.Failed → ((count : ℕ) × (count < length (adverts schedule.declarations (permitted (content schedule))))
+        × (K.held sink.new ≡ append_known (K.held sink.old) (take count (adverts schedule.declarations (permitted (content schedule)))))) }
     ensures no_fewer { K.faults sink.old ≤ K.faults sink.new }
     ensures cause { IsErrOf result PutFault.Failed → Rose (K.faults sink.old) (K.faults sink.new) }
 {
     let mut text = Bytes::new(alloc);
-    let mut run = Run::open(alloc, schedule)?;
-    while let Some(piece) = run.next(alloc, schedule)? {
+    let (mut run, declarations) = Run::open(alloc, schedule)?;
+    while let Some(piece) = run.next(alloc)? {
         text.clear();
         tell_entries(
             alloc,
             &mut text,
-            schedule.declarations.as_slice(),
+            declarations.as_slice(),
             claims,
             piece.as_slice(),
         )?;
         write_text(sink, text.as_slice())?;
     }
-    Ok(())
+    Ok(declarations)
 }
 
 /// Writes the claims that stand, and who holds the address that is asked for.

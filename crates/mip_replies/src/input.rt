@@ -60,7 +60,7 @@ fn answer_bounded<K: Sink>(
     ensures cause { result.0 ≡ 4 → Rose (K.faults sink.old) (K.faults sink.new) }
 {
     match answer(alloc, form, input) {
-        Ok(reply) => tell_reply(alloc, sink, &reply),
+        Ok(reply) => tell_reply(alloc, sink, reply),
         Err(Memory) => Status::MEMORY,
     }
 }
@@ -73,7 +73,7 @@ fn tell_long<K: Sink>(alloc: Global, sink: &mut K) -> Status
     ensures cause { result.0 ≡ 4 → Rose (K.faults sink.old) (K.faults sink.new) }
 {
     match Reply::copy(alloc, Status::TOO_LONG, b"long\n") {
-        Ok(reply) => tell_reply(alloc, sink, &reply),
+        Ok(reply) => tell_reply(alloc, sink, reply),
         Err(Memory) => Status::MEMORY,
     }
 }
@@ -86,7 +86,7 @@ pub fn tell_bad<K: Sink>(alloc: Global, sink: &mut K, line: u32, why: Reason) ->
     ensures cause { result.0 ≡ 4 → Rose (K.faults sink.old) (K.faults sink.new) }
 {
     match bad(alloc, line, why) {
-        Ok(reply) => tell_reply(alloc, sink, &reply),
+        Ok(reply) => tell_reply(alloc, sink, reply),
         Err(Memory) => Status::MEMORY,
     }
 }

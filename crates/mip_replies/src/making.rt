@@ -21,15 +21,16 @@ use mip_words::{Bytes, Memory};
 use std::alloc::Global;
 
 /// The summary of a schedule's run, of which no more than a piece is kept, and whose trace is never spelled.
-fn summary_of_run(alloc: Global, schedule: &Schedule) -> Result<Bytes, Memory>
-    ensures { IfOk result (λ text. text ≡ product_text products.Summary (content schedule.now)) }
+fn summary_of_run(alloc: Global, schedule: Schedule) -> Result<Bytes, Memory>
+    ensures { IfOk result (λ text. text ≡ product_text products.Summary (content schedule)) }
 {
+    let events = schedule.events.len();
     let mut tally = Tally::new();
-    let mut run = Run::open(alloc, schedule)?;
-    while let Some(piece) = run.next(alloc, schedule)? {
+    let (mut run, _) = Run::open(alloc, schedule)?;
+    while let Some(piece) = run.next(alloc)? {
         tally.take(&piece);
     }
-    tally.text(alloc, schedule)
+    tally.text(alloc, events)
 }
 
 fn text_of(alloc: Global, product: Product, draft: &Draft) -> Result<Bytes, Memory>
@@ -40,7 +41,7 @@ fn text_of(alloc: Global, product: Product, draft: &Draft) -> Result<Bytes, Memo
         Product::Schedule => spell(alloc, &draft.seed, draft.count),
         Product::Summary => {
             let schedule = make(alloc, &draft.seed, draft.count)?;
-            summary_of_run(alloc, &schedule)
+            summary_of_run(alloc, schedule)
         }
     }
 }
@@ -65,7 +66,7 @@ pub fn tell_made<K: Sink>(alloc: Global, product: Product, draft: &Draft, sink: 
     ensures sink_faults { K.faults sink.old ≤ K.faults sink.new }
 {
     match made(alloc, product, draft) {
-        Ok(reply) => tell_reply(alloc, sink, &reply),
+        Ok(reply) => tell_reply(alloc, sink, reply),
         Err(Memory) => Status::MEMORY,
     }
 }

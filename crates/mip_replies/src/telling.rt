@@ -34,16 +34,17 @@ pub fn tell<K: Sink>(sink: &mut K, text: &[u8], status: Status) -> Status
 }
 
 /// Writes a reply, and gives its status where all of it was taken.
-pub fn tell_reply<K: Sink>(alloc: Global, sink: &mut K, reply: &Reply) -> Status
-    requires { IsConclusive reply.now.status }
-    ensures told { Told reply.now result.0 (K.held sink.old) (K.held sink.new) }
-    ensures status { (result.0 ≡ reply.now.status) ⊎ ((result.0 ≡ 4) ⊎ (result.0 ≡ 5)) }
+pub fn tell_reply<K: Sink>(alloc: Global, sink: &mut K, reply: Reply) -> Status
+    requires { IsConclusive reply.status }
+    ensures told { Told reply result.0 (K.held sink.old) (K.held sink.new) }
+    ensures status { (result.0 ≡ reply.status) ⊎ ((result.0 ≡ 4) ⊎ (result.0 ≡ 5)) }
     ensures no_fewer { K.faults sink.old ≤ K.faults sink.new }
     ensures cause { result.0 ≡ 4 → Rose (K.faults sink.old) (K.faults sink.new) }
 {
-    match &reply.text {
-        Text::Whole(text) => tell(sink, text.as_slice(), reply.status),
-        Text::Run(told, schedule) => tell_run(alloc, sink, *told, schedule, reply.status),
+    let Reply { status, text } = reply;
+    match text {
+        Text::Whole(text) => tell(sink, text.as_slice(), status),
+        Text::Run(told, schedule) => tell_run(alloc, sink, told, schedule, status),
     }
 }
 
@@ -52,11 +53,11 @@ fn tell_run<K: Sink>(
     alloc: Global,
     sink: &mut K,
     told: ToldRun,
-    schedule: &Schedule,
+    schedule: Schedule,
     status: Status,
 ) -> Status
     requires { IsConclusive status.0 }
-    ensures told { Told record { status = status.0; text = text_told told (content schedule.now) } result.0 (K.held sink.old) (K.held sink.new) }
+    ensures told { Told record { status = status.0; text = text_told told (content schedule) } result.0 (K.held sink.old) (K.held sink.new) }
     ensures status { (result.0 ≡ status.0) ⊎ ((result.0 ≡ 4) ⊎ (result.0 ≡ 5)) }
     ensures no_fewer { K.faults sink.old ≤ K.faults sink.new }
     ensures cause { result.0 ≡ 4 → Rose (K.faults sink.old) (K.faults sink.new) }
@@ -73,12 +74,12 @@ fn write_run<K: Sink>(
     alloc: Global,
     sink: &mut K,
     told: ToldRun,
-    schedule: &Schedule,
+    schedule: Schedule,
 ) -> Result<(), PutFault>
-    ensures ok { OnOk result (K.held sink.new ≡ append_known (K.held sink.old) (text_told told (content schedule.now))) }
-    ensures front { OnErr result ((count : ℕ) × (K.held sink.new ≡ append_known (K.held sink.old) (take count (text_told told (content schedule.now))))) }
-    ensures part { IsErrOf result PutFault.Failed → ((count : ℕ) × (count < length (text_told told (content schedule.now)))
-        × (K.held sink.new ≡ append_known (K.held sink.old) (take count (text_told told (content schedule.now))))) }
+    ensures ok { OnOk result (K.held sink.new ≡ append_known (K.held sink.old) (text_told told (content schedule))) }
+    ensures front { OnErr result ((count : ℕ) × (K.held sink.new ≡ append_known (K.held sink.old) (take count (text_told told (content schedule))))) }
+    ensures part { IsErrOf result PutFault.Failed → ((count : ℕ) × (count < length (text_told told (content schedule)))
+        × (K.held sink.new ≡ append_known (K.held sink.old) (take count (text_told told (content schedule))))) }
     ensures no_fewer { K.faults sink.old ≤ K.faults sink.new }
     ensures cause { IsErrOf result PutFault.Failed → Rose (K.faults sink.old) (K.faults sink.new) }
 {

@@ -12,6 +12,11 @@ use Rattle.mip_schedule.specs.declared.schedule.Schedule.{Schedule}
 abbrev pub Names : Type 0
 Names = Option (List Declaration)
 
+-- those of what is declared, where that is known
+abbrev pub names_in : Option (Bor (List Declaration)) → Names
+names_in (Some declared) = Some declared.now
+names_in None = None
+
 -- those of a schedule, where there is one
 abbrev pub names_of : Option (Bor Schedule) → Names
 names_of (Some schedule) = Some schedule.now.declarations

@@ -1,8 +1,8 @@
 ghost use Rattle.std.specs.Prelude.{◌≡◌, Some, IfOk};
-ghost use Rattle.mip_rows.specs.Names.{names_of, node_name, link_name, outsider_name, who_name};
+ghost use Rattle.mip_rows.specs.Names.{names_in, names_of, node_name, link_name, outsider_name, who_name};
 
 use crate::numbered;
-use mip_schedule::Schedule;
+use mip_schedule::{Declarations, Schedule};
 use mip_words::{Holder, LinkId, Memory, NodeId};
 use std::alloc::Global;
 use std::marker::Model;
@@ -11,21 +11,21 @@ use std::marker::Model;
 /// once, when the table is made.
 #[derive(Drop)]
 pub struct NameTable<'a> {
-    schedule: Option<&'a Schedule>,
+    declared: Option<&'a Declarations>,
     links: Vec<&'a [u8]>,
     nodes: Vec<&'a [u8]>,
     outsiders: Vec<&'a [u8]>,
 }
 
 impl<'a> Model for NameTable<'a> {
-    ghost use Rattle.mip_rows.specs.Names.{Names, names_of};
+    ghost use Rattle.mip_rows.specs.Names.{Names, names_in};
     ghost use Rattle.mip_rows.specs.NameTables.{IsTable};
 
     ghost Value = { Names };
 
-    ghost view = { λ t. names_of t.schedule };
+    ghost view = { λ t. names_in t.declared };
 
-    ghost invariant = { λ t. IsTable (names_of t.schedule) t.links.items t.nodes.items t.outsiders.items };
+    ghost invariant = { λ t. IsTable (names_in t.declared) t.links.items t.nodes.items t.outsiders.items };
 }
 
 impl<'a> NameTable<'a> {
@@ -33,23 +33,27 @@ impl<'a> NameTable<'a> {
     pub fn untabled(alloc: Global, schedule: Option<&'a Schedule>) -> NameTable<'a>
         ensures { result ≡ names_of schedule.entry }
     {
+        let declared = match schedule {
+            Some(schedule) => Some(&schedule.declarations),
+            None => None,
+        };
         NameTable {
-            schedule,
+            declared,
             links: Vec::new(alloc),
             nodes: Vec::new(alloc),
             outsiders: Vec::new(alloc),
         }
     }
 
-    /// The names of a schedule.
-    pub fn of(alloc: Global, schedule: &'a Schedule) -> Result<NameTable<'a>, Memory>
-        ensures { IfOk result (λ t. t ≡ Some schedule.now.declarations) }
+    /// The names of what is declared.
+    pub fn of(alloc: Global, declared: &'a Declarations) -> Result<NameTable<'a>, Memory>
+        ensures { IfOk result (λ t. t ≡ Some declared.now) }
     {
         Ok(NameTable {
-            schedule: Some(schedule),
-            links: numbered::links(alloc, schedule)?,
-            nodes: numbered::nodes(alloc, schedule)?,
-            outsiders: numbered::outsiders(alloc, schedule)?,
+            declared: Some(declared),
+            links: numbered::links(alloc, declared)?,
+            nodes: numbered::nodes(alloc, declared)?,
+            outsiders: numbered::outsiders(alloc, declared)?,
         })
     }
 
@@ -57,21 +61,21 @@ impl<'a> NameTable<'a> {
     pub fn link_name(&self, link: LinkId) -> &[u8]
         ensures { result.now ≡ link_name self.now link }
     {
-        numbered::link_in(self.schedule, &self.links, link)
+        numbered::link_in(self.declared, &self.links, link)
     }
 
     /// The name of a node.
     pub fn node_name(&self, node: NodeId) -> &[u8]
         ensures { result.now ≡ node_name self.now node }
     {
-        numbered::node_in(self.schedule, &self.nodes, node)
+        numbered::node_in(self.declared, &self.nodes, node)
     }
 
     /// The name of an outsider.
     pub fn outsider_name(&self, outsider: u8) -> &[u8]
         ensures { result.now ≡ outsider_name self.now outsider }
     {
-        numbered::outsider_in(self.schedule, &self.outsiders, outsider)
+        numbered::outsider_in(self.declared, &self.outsiders, outsider)
     }
 
     /// The name of the holder with this number.

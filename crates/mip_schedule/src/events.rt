@@ -2,6 +2,7 @@ ghost use Rattle.std.specs.Prelude.{◌≡◌, ◌∷◌, ◌++◌, [], List, le
 ghost use Rattle.std.specs.Option.{option_copied};
 
 use crate::event::Event;
+use crate::event_queue::EventQueue;
 use mip_words::Memory;
 use std::alloc::Global;
 use std::marker::Model;
@@ -64,5 +65,12 @@ impl Events {
         ensures { result.now ≡ self.now }
     {
         self.list.as_slice()
+    }
+
+    /// The same events, to be taken one after the other.
+    pub fn into_queue(self) -> EventQueue
+        ensures { result ≡ self }
+    {
+        EventQueue::of(self.list)
     }
 }

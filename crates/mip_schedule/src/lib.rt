@@ -8,6 +8,7 @@ mod declaration_writing;
 mod event;
 mod event_line;
 mod event_lines;
+mod event_queue;
 mod event_rows;
 mod event_writing;
 mod events;
@@ -31,6 +32,7 @@ mod writing;
 
 pub use event::Event;
 pub use event_line::is_reserved;
+pub use event_queue::EventQueue;
 pub use events::Events;
 pub use fault::ScheduleFault;
 pub use head::{head_field, seed_line, version_line};

@@ -42,7 +42,7 @@ pub fn entry_line(line: &mut Bytes, names: &NameTable<'_>, entry: &Entry) -> Res
 pub fn write_trace(alloc: Global, schedule: &Schedule, history: &History) -> Result<Bytes, Memory>
     ensures { IfOk result (λ text. text ≡ trace_text (Some schedule.now.declarations) history.now) }
 {
-    let names = NameTable::of(alloc, schedule)?;
+    let names = NameTable::of(alloc, &schedule.declarations)?;
     let mut out = Bytes::new(alloc);
     for entry in history.as_slice() {
         put_entry(&mut out, &names, entry)?;

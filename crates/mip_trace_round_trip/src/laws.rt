@@ -15,11 +15,12 @@ use mip_schedule::{Schedule, few, lawful, names_found};
 /// A law: where each number in the permitted history of a schedule fits its bits, as in every `History`, the trace is read as
 /// this history, whatever happened in it. A text that is read as a trace has fewer than 2 ^ 32 bytes.
 pub fn trace_is_read_back(schedule: &Schedule)
-    requires { AllByRecursion HasWidths (permitted (content schedule.now)) }
     // Each entry is one that a trace of the schedule spells.
-    ensures spelled { length (trace_text (Some schedule.now.declarations) (permitted (content schedule.now))) < 2 ^ 32
+    ensures spelled { AllByRecursion HasWidths (permitted (content schedule.now))
+        → length (trace_text (Some schedule.now.declarations) (permitted (content schedule.now))) < 2 ^ 32
         → AllByRecursion (IsOf schedule.now.declarations) (permitted (content schedule.now)) }
-    ensures read_back { length (trace_text (Some schedule.now.declarations) (permitted (content schedule.now))) < 2 ^ 32
+    ensures read_back { AllByRecursion HasWidths (permitted (content schedule.now))
+        → length (trace_text (Some schedule.now.declarations) (permitted (content schedule.now))) < 2 ^ 32
         → reading schedule.now.declarations (trace_text (Some schedule.now.declarations) (permitted (content schedule.now)))
         ≡ Ok (permitted (content schedule.now)) }
 {

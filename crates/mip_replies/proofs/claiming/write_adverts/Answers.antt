@@ -8,6 +8,9 @@ use Rattle.mip_replies.proofs.ClaimsTold.{piece_text, adverts_on, adverts_part, 
 use Rattle.mip_replay.proofs.PieceLaws.{told_more, told_last}
 use Rattle.mip_replies.proofs.claiming.write_adverts.Goals as goal
 
+pub next-requires : goal.next-requires
+next-requires g c = (content c.args.schedule, c.loop-run.invariant.stands)
+
 pub loop-run-init : goal.loop-run-init
 loop-run-init g c = record {
   stands = c.in_ok-run.ensures.stands;
@@ -21,11 +24,11 @@ loop-run-preserved g c =
     let told = c.loop-run.run.told in
     let items = c.as_slice-in-Some.result.now in
     let next = c.next.new.self.told in
-    let ds = c.args.schedule.now.declarations in
+    let ds = c.args.schedule.declarations in
     let more : next ≡ told ++ items =
     told_more next told items c.in-Some.piece c.in_ok-piece.field-0 c.in_ok-piece.ensures.piece c.in-Some.is c.as_slice-in-Some.ensures in
     record {
-      stands = c.in_ok-piece.ensures.stands;
+      stands = c.in_ok-piece.ensures.stands (content c.args.schedule) c.loop-run.invariant.stands;
       written = adverts_on _ _ _ ds next told items c.as_slice-in-Some-2.result.now more c.loop-run.invariant.written
           (piece_text ds c.as_slice.result.now items _ _ _ c.as_slice.ensures c.clear.ensures c.in_ok-tell_entries.ensures.adverts c.as_slice-in-Some-2.ensures)
           c.in_ok-write_text.ensures.ok;
@@ -36,26 +39,26 @@ loop-run-preserved g c =
 pub returns-in_err-piece-clause-front : goal.returns-in_err-piece-clause-front
 returns-in_err-piece-clause-front g c =
     let p = err_from_is_err_and c.from_residual-in_err-piece.result c.from_residual-in_err-piece.ensures.1 in
-    let s = content c.args.schedule.now in
+    let s = content c.args.schedule in
     let front = told_front c.loop-run.run s c.loop-run.invariant.stands in
-    rw p.1 (adverts_front _ _ c.args.schedule.now.declarations (permitted s) c.loop-run.run.told front.0 front.1 c.loop-run.invariant.written)
+    rw p.1 (adverts_front _ _ c.args.schedule.declarations (permitted s) c.loop-run.run.told front.0 front.1 c.loop-run.invariant.written)
 
 pub returns-in_err-tell_entries-clause-front : goal.returns-in_err-tell_entries-clause-front
 returns-in_err-tell_entries-clause-front g c =
     let p = err_from_is_err_and c.from_residual-in_err-tell_entries.result c.from_residual-in_err-tell_entries.ensures.1 in
-    let s = content c.args.schedule.now in
+    let s = content c.args.schedule in
     let front = told_front c.loop-run.run s c.loop-run.invariant.stands in
-    rw p.1 (adverts_front _ _ c.args.schedule.now.declarations (permitted s) c.loop-run.run.told front.0 front.1 c.loop-run.invariant.written)
+    rw p.1 (adverts_front _ _ c.args.schedule.declarations (permitted s) c.loop-run.run.told front.0 front.1 c.loop-run.invariant.written)
 
 pub returns-in_err-write_text-clause-front : goal.returns-in_err-write_text-clause-front
 returns-in_err-write_text-clause-front g c =
     let p = err_from_is_err_and c.from_residual-in_err-write_text.result c.from_residual-in_err-write_text.ensures.1 in
-    let s = content c.args.schedule.now in
+    let s = content c.args.schedule in
     let told = c.loop-run.run.told in
     let items = c.as_slice-in-Some.result.now in
     let next = c.next.new.self.told in
-    let ds = c.args.schedule.now.declarations in
-    let front = told_front c.next.new.self s c.in_ok-piece.ensures.stands in
+    let ds = c.args.schedule.declarations in
+    let front = told_front c.next.new.self s (c.in_ok-piece.ensures.stands s c.loop-run.invariant.stands) in
     rw p.1
     (part_front _ _ _
     (adverts_part _ _ _ ds (permitted s) next told items front.0 c.as_slice-in-Some-2.result.now front.1
@@ -65,12 +68,12 @@ returns-in_err-write_text-clause-front g c =
 
 pub returns-in_err-write_text-clause-part : goal.returns-in_err-write_text-clause-part
 returns-in_err-write_text-clause-part g c = λ _.
-    let s = content c.args.schedule.now in
+    let s = content c.args.schedule in
     let told = c.loop-run.run.told in
     let items = c.as_slice-in-Some.result.now in
     let next = c.next.new.self.told in
-    let ds = c.args.schedule.now.declarations in
-    let front = told_front c.next.new.self s c.in_ok-piece.ensures.stands in
+    let ds = c.args.schedule.declarations in
+    let front = told_front c.next.new.self s (c.in_ok-piece.ensures.stands s c.loop-run.invariant.stands) in
     adverts_part _ _ _ ds (permitted s) next told items front.0 c.as_slice-in-Some-2.result.now front.1
     (told_more next told items c.in-Some.piece c.in_ok-piece.field-0 c.in_ok-piece.ensures.piece c.in-Some.is c.as_slice-in-Some.ensures) c.loop-run.invariant.written
     (piece_text ds c.as_slice.result.now items _ _ _ c.as_slice.ensures c.clear.ensures c.in_ok-tell_entries.ensures.adverts c.as_slice-in-Some-2.ensures)
@@ -78,7 +81,7 @@ returns-in_err-write_text-clause-part g c = λ _.
 
 pub returns-clause-ok : goal.returns-clause-ok
 returns-clause-ok g c =
-    let s = content c.args.schedule.now in
+    let s = content c.args.schedule in
     let told : c.loop-run.run.told ≡ permitted s =
-    told_last c.next.new.self.told c.loop-run.run.told (permitted s) c.in_ok-piece.field-0 c.in_ok-piece.ensures.piece c.in_default.is c.in_ok-piece.ensures.end in
+    told_last c.next.new.self.told c.loop-run.run.told (permitted s) c.in_ok-piece.field-0 c.in_ok-piece.ensures.piece c.in_default.is (c.in_ok-piece.ensures.end s c.loop-run.invariant.stands) in
     rw (sym told) c.loop-run.invariant.written

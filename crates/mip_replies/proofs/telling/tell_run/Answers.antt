@@ -6,7 +6,7 @@ use Rattle.mip_replies.proofs.telling.tell_run.Goals as goal
 
 pub returns-in-Ok-clause-told : goal.returns-in-Ok-clause-told
 returns-in-Ok-clause-told g c =
-    let text = text_told c.args.told (content c.args.schedule.now) in
+    let text = text_told c.args.told (content c.args.schedule) in
     record {
       conclusive = λ _. (refl, c.in-Ok.ensures.ok);
       part = λ fault. absurd (c.requires.no_write_fault fault);

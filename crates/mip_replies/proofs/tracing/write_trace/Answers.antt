@@ -22,19 +22,22 @@ more g c =
 
 -- where a piece was not written whole, a part of the trace was
 part_of_trace : (g : Over) (c : After-from_residual-in_err-write_entries g) → c.next.new.self.told ≡ c.loop-run.run.told ++ c.as_slice.result.now
-    → (count : ℕ) × (count < length (trace_of (content c.args.schedule.now)))
-    × (g.K.Sink.held c.write_entries.new.sink ≡ append_known (g.K.Sink.held c.args.sink.now) (take count (trace_of (content c.args.schedule.now))))
+    → (count : ℕ) × (count < length (trace_of (content c.args.schedule)))
+    × (g.K.Sink.held c.write_entries.new.sink ≡ append_known (g.K.Sink.held c.args.sink.now) (take count (trace_of (content c.args.schedule))))
 part_of_trace g c is =
-    let s = content c.args.schedule.now in
-    let front = told_front c.next.new.self s c.in_ok-piece.ensures.stands in
+    let s = content c.args.schedule in
+    let front = told_front c.next.new.self s (c.in_ok-piece.ensures.stands s c.loop-run.invariant.stands) in
     let part = c.in_err-write_entries.ensures.err in
-    piece_part _ _ _ (Some c.args.schedule.now.declarations) c.in_ok-names.names (permitted s) c.next.new.self.told c.loop-run.run.told c.as_slice.result.now front.0 part.0
+    piece_part _ _ _ (Some c.args.schedule.declarations) c.in_ok-names.names (permitted s) c.next.new.self.told c.loop-run.run.told c.as_slice.result.now front.0 part.0
     c.in_ok-names.ensures front.1 is c.loop-run.invariant.written part.1 part.2
+
+pub next-requires : goal.next-requires
+next-requires g c = (content c.args.schedule, c.loop-run.invariant.stands)
 
 pub loop-run-init : goal.loop-run-init
 loop-run-init g c = record {
   stands = c.in_ok-run.ensures.stands;
-  written = rw (c.in_ok-run.ensures.none, text_none (Some c.args.schedule.now.declarations)) (append_none _ _ refl);
+  written = rw (c.in_ok-run.ensures.none, text_none (Some c.args.schedule.declarations)) (append_none _ _ refl);
   fit = rw c.in_ok-run.ensures.none tt;
   faults = omega arith;
 }
@@ -45,8 +48,8 @@ loop-run-preserved g c =
     let items = c.as_slice.result.now in
     let next = c.next.new.self.told in
     record {
-      stands = c.in_ok-piece.ensures.stands;
-      written = piece_more _ _ _ (Some c.args.schedule.now.declarations) c.in_ok-names.names next told items c.in_ok-names.ensures (more g (goal.at.loop-run-preserved g c).After-as_slice)
+      stands = c.in_ok-piece.ensures.stands (content c.args.schedule) c.loop-run.invariant.stands;
+      written = piece_more _ _ _ (Some c.args.schedule.declarations) c.in_ok-names.names next told items c.in_ok-names.ensures (more g (goal.at.loop-run-preserved g c).After-as_slice)
           c.loop-run.invariant.written c.in_ok-write_entries.ensures.ok;
       fit = rw (more g (goal.at.loop-run-preserved g c).After-as_slice) (widths_more told items c.loop-run.invariant.fit (rw c.as_slice.ensures c.widths.ensures));
       faults = omega (arith, c.loop-run.invariant.faults, c.write_entries.ensures.no_fewer);
@@ -54,16 +57,16 @@ loop-run-preserved g c =
 
 pub loop-run-smaller : goal.loop-run-smaller
 loop-run-smaller g c =
-    less_left c.next.new.self (content c.args.schedule.now) c.loop-run.run.told c.as_slice.result.now c.in_ok-piece.ensures.stands
+    less_left c.next.new.self (content c.args.schedule) c.loop-run.run.told c.as_slice.result.now (c.in_ok-piece.ensures.stands (content c.args.schedule) c.loop-run.invariant.stands)
     (more g (goal.at.loop-run-smaller g c).After-as_slice)
     (rw c.as_slice.ensures (rw c.in-Some.is at c.in_ok-piece.ensures.more))
 
 pub returns-in_err-piece-clause-front : goal.returns-in_err-piece-clause-front
 returns-in_err-piece-clause-front g c =
     let p = err_from_is_err_and c.from_residual-in_err-piece.result c.from_residual-in_err-piece.ensures.1 in
-    let s = content c.args.schedule.now in
+    let s = content c.args.schedule in
     let front = told_front c.loop-run.run s c.loop-run.invariant.stands in
-    rw p.1 (told_part _ _ (Some c.args.schedule.now.declarations) (permitted s) c.loop-run.run.told front.0 front.1 c.loop-run.invariant.written)
+    rw p.1 (told_part _ _ (Some c.args.schedule.declarations) (permitted s) c.loop-run.run.told front.0 front.1 c.loop-run.invariant.written)
 
 pub returns-in_err-write_entries-clause-front : goal.returns-in_err-write_entries-clause-front
 returns-in_err-write_entries-clause-front g c =

@@ -11,11 +11,11 @@ use Rattle.mip_replies.proofs.tracing.write_trace.Given as goal
 
 abbrev pub invariant-loop-run : goal.invariant-loop-run
 invariant-loop-run g l = record {
-  stands : IsRunOf l.run (content l.schedule);
-  written : g.K.Sink.held l.sink ≡ append_known (g.K.Sink.held l.initial.sink) (trace_text (Some l.schedule.declarations) l.run.told);
+  stands : IsRunOf l.run (content l.initial.schedule);
+  written : g.K.Sink.held l.sink ≡ append_known (g.K.Sink.held l.initial.sink) (trace_text (Some l.initial.schedule.declarations) l.run.told);
   fit : AllByRecursion HasWidths l.run.told;
   faults : g.K.Sink.faults l.initial.sink ≤ g.K.Sink.faults l.sink;
 }
 
 abbrev pub decreases-loop-run : goal.decreases-loop-run
-decreases-loop-run g l = length (permitted (content l.schedule)) - length l.run.told
+decreases-loop-run g l = length (permitted (content l.initial.schedule)) - length l.run.told

@@ -8,5 +8,5 @@ returns c =
     let h = c.args.self.now in
     let counts = c.self.inside.counts in
     let are : counts ≡ counts_of h = c.self.invariant ∙ ap counts_of c.self.view_is in
-    rw (c.in_ok-put_words.ensures, c.in_ok-put_count-2.ensures, c.in_ok-put_count.ensures, c.new-out.ensures, c.len.ensures)
-    (summary_is c.args.schedule.now.events h counts are (λ e. omega (arith, e, c.if-self.false)))
+    rw (c.in_ok-put_words.ensures, c.in_ok-put_count-2.ensures, c.in_ok-put_count.ensures, c.new-out.ensures)
+    (summary_is c.args.events h counts are (λ e. omega (arith, e, c.if-self.false)))

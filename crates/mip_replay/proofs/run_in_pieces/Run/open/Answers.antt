@@ -6,11 +6,15 @@ use Rattle.mip_replay.proofs.run_in_pieces.Run.open.Goals as goal
 
 pub returns-clause-stands : goal.returns-clause-stands
 returns-clause-stands c =
-    let history = permitted (content c.args.schedule.now) in
+    let history = permitted (content c.args.schedule) in
     record {
+      next = 0;
       stands = c.in_ok-engine.ensures.stands;
       within = omega arith;
+      coming = c.into_queue.ensures;
       told = refl;
       rest = history;
       front = sym (ap (λ (l : List Entry). l ++ history) c.in_ok-engine.ensures.none);
+      lawful = c.lawful.ensures;
+      few = c.few.ensures;
     }
