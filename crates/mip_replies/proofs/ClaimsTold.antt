@@ -2,7 +2,7 @@
 use Rattle.std.proofs.Common.{◌≡◌, ℕ, ◌+◌, ◌<◌, ◌≤◌, sym, ap, ◌∙◌, arith, List, [], ◌++◌, length, take, length-append, append_assoc, subst}
 use Rattle.std.proofs.Math.Seq.{take-append-add}
 use Rattle.std.proofs.lemmas.List.{take-append-le, take_all}
-use Rattle.std.specs.Prelude.{Option, Result, Ok, Err, OnErr}
+use Rattle.std.specs.Prelude.{Option, Result, Ok, Err, OnErr, IsErrOf}
 use Rattle.std.specs.Io.KnownBytes.{append_known}
 use Rattle.mip_words.specs.declared.address.Address.{Address}
 use Rattle.mip_symbols.specs.declared.declaration.Declaration.{Declaration}
@@ -101,3 +101,11 @@ claims_part a b c ds own history ask rows same stand first part =
 pub on_err : {X E : Type 0} (P Q : Type 0) (r : Result X E) → (P → Q) → OnErr r P → OnErr r Q
 on_err P Q (Ok x) step is = tt
 on_err P Q (Err e) step is = step is
+
+abbrev err_or : {X E : Type 0} → E → Result X E → E
+err_or e (Ok x) = e
+err_or e (Err fault) = fault
+
+-- the fault that a call is ended by is the fault that came
+pub fault_on : {X Y E : Type 0} (r : Result Y E) (came given fault : E) → r ≡ Err given → given ≡ came → r ≡ Err fault → IsErrOf {T = X} {E = E} (Err came) fault
+fault_on r came given fault is same ended = ap Err (sym same ∙ ap (err_or fault) (sym is ∙ ended))

@@ -28,4 +28,4 @@ returns c =
     let all : c.loop-run.tally ≡ permitted s =
     c.loop-run.invariant.counted
     ∙ told_last c.next.new.self.told c.loop-run.run.told (permitted s) c.in_ok-piece.field-0 c.in_ok-piece.ensures.piece c.in_default.is (c.in_ok-piece.ensures.end s c.loop-run.invariant.stands) in
-    subst (λ (l : List Entry). IfOk c.text.result (λ text. text ≡ summary_text (length c.args.schedule.events) l)) all c.text.ensures
+    subst (λ (l : List Entry). IfOk c.text.result (λ text. text ≡ summary_text (length c.args.schedule.events) l)) all (rw c.len-events.ensures at c.text.ensures)

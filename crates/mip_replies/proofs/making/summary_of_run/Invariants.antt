@@ -6,9 +6,9 @@ use Rattle.mip_replies.proofs.making.summary_of_run.Given as goal
 
 abbrev pub invariant-loop-run : goal.invariant-loop-run
 invariant-loop-run l = record {
-  stands : IsRunOf l.run (content l.initial.schedule);
+  stands : IsRunOf l.run (content l.fn.schedule);
   counted : l.tally ≡ l.run.told;
 }
 
 abbrev pub decreases-loop-run : goal.decreases-loop-run
-decreases-loop-run l = length (permitted (content l.initial.schedule)) - length l.run.told
+decreases-loop-run l = length (permitted (content l.fn.schedule)) - length l.run.told
